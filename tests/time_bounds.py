@@ -43,6 +43,8 @@ FEW, MANY, MOST_OF_MANY = 10_000, 60_000, 8
 MOST_OF_PLAIN = 20
 # Twice as much input; what goes over all that was before takes four times as long.
 MOST_OF_TWICE = 2.9
+# What searches all addresses at each turn takes some 50 times as long.
+MOST_OF_ADDRESSES = 2
 # lw x5,64(x0); lw x5,68(x0); lw x5,72(x0); lw x5,76(x0); jalr x0,0(x1)
 FOUR_LOADS = "8322000483224004832280048322c00467800000"
 # andi x5,x10,3; slli x5,x5,2; lw x6,64(x5); addi x6,x6,1; sw x6,64(x5); jalr x0,0(x1)
@@ -118,6 +120,9 @@ def bounds() -> list[Bound]:
         rows.append(Bound(f"steps {store}, twice the turns", MOST_OF_TWICE, *steps))
         gains = [Call("gain", ("4", store), counters(count)) for count in (20_000, 10_000)]
         rows.append(Bound(f"gain {store}, twice the epochs", MOST_OF_TWICE, *gains))
+    waits = [Call("gain", ("4", "plain", "--wait", *(f"{1 << 20 | place * 4:08x}" for place in range(count))),
+                  counters(10_000)) for count in (4096, 1)]
+    rows.append(Bound("gain, 4,096 addresses at which no load stands to one", MOST_OF_ADDRESSES, *waits))
     for name, loop in (("nothing depends", loads), ("each epoch depends", counters), ("the last epoch depends", late)):
         twice = [Call("depends", ("8",), loop(count)) for count in (60_000, 30_000)]
         rows.append(Bound(f"depends where {name}, twice the epochs", MOST_OF_TWICE, *twice))

@@ -1,11 +1,12 @@
 //! What the run at even speed makes.
-ghost use Rattle.std.specs.Prelude.{◌≤◌, IfOk, IfErr};
+ghost use Rattle.std.specs.Prelude.{◌≡◌, ◌≤◌, IfOk, IfErr};
 ghost use Rattle.violations.specs.Rule.{IsCoreCount};
 ghost use Rattle.homefree.specs.Room.{most_room};
+ghost use Rattle.even_speed.specs.Held.{loads_at};
 ghost use Rattle.all_schedules.specs.Made.{loop_on};
 ghost use Rattle.all_schedules.specs.Evenly as spec;
 
-use even_speed::{Ran, drive_evenly};
+use even_speed::{Holds, Ran, drive_evenly};
 use homefree::{Book, TurnFault};
 use run_ledger::Shares;
 use rv32_exec::Image;
@@ -21,6 +22,17 @@ pub struct EvenRun<S: EpochStore> {
     pub schedule: Vec<u32>,
     /// What the run came to.
     pub ran: Ran,
+}
+
+/// The loads at these addresses of code wait.
+fn holds_at(alloc: Global, addresses: &[u32]) -> Result<Holds, TurnFault>
+    ensures loads { IfOk result (λ holds. loads_at holds ≡ loads_at addresses.now) }
+    ensures fault { IfErr result (λ fault. fault ≡ TurnFault.NoMemory) }
+{
+    match Vec::from_slice(alloc, addresses) {
+        Ok(addresses) => Ok(Holds::at(addresses)),
+        Err(_) => Err(TurnFault::NoMemory),
+    }
 }
 
 /// Runs a loop at even speed from an empty history on, over a fresh store, up to its end. A core waits at a load at one of these addresses
@@ -45,13 +57,14 @@ pub fn run_evenly<S: EpochStore>(
     let Ok((mut book, mut shares)) = made else {
         return Err(TurnFault::NoMemory);
     };
+    let holds = holds_at(alloc, addresses)?;
     let mut schedule = Vec::new(alloc);
     let driven = drive_evenly(
         alloc,
         &mut book,
         image,
         cores,
-        addresses,
+        &holds,
         &mut schedule,
         &mut shares,
     );

@@ -19,7 +19,7 @@ use Rattle.even_speed.specs.declared.run.Ran.{Ran}
 use Rattle.even_speed.specs.Clocks.{IsFirst, dues, late_clocks, later}
 use Rattle.even_speed.specs.Even.{Pace, Evenly, EndsOrGoes, clocks_after, go_answer, pace_after, ran_at}
 use Rattle.even_speed.specs.Fixed.{IsDone, IsOneRun, RunIsFixed}
-use Rattle.even_speed.specs.Held.{are_held, held_in}
+use Rattle.even_speed.specs.Held.{Holding, are_held, held_in}
 
 abbrev turn_at : ℕ → ℕ → ℕ → Turn
 turn_at core due at = record { core = core; due = due; at = at }
@@ -38,8 +38,8 @@ one_first now dues n t u one two = λ i. record { core = cores i; due = times i;
     begins = two.begins ∙ (ap (later now) times ∙ sym one.begins)
 
 -- and the same cores are held
-one_held : {S : Type 0} (alike : S → S → Type 0) (addresses : List ℕ) (b c : BookView S) (hands : ℕ → Option HartState) → AreTwins alike b c → held_in addresses c hands ≡ held_in addresses b hands
-one_held alike addresses b c hands twins = λ i. are_held addresses (twins.image i) (replay (twins.image i) (twins.cores i) (twins.history i)) hands
+one_held : {S : Type 0} (alike : S → S → Type 0) (holds : Holding) (b c : BookView S) (hands : ℕ → Option HartState) → AreTwins alike b c → held_in holds c hands ≡ held_in holds b hands
+one_held alike holds b c hands twins = λ i. are_held holds (twins.image i) (replay (twins.image i) (twins.cores i) (twins.history i)) hands
 
 -- the answer isn't want of memory, where the run wasn't stopped for that
 fed_so : {S : Type 0} (old mid : Driver S) (p : Pace) (t : Turn) (answer : Result Answer TurnFault) (rest : List ℕ) (result : Result (Option Ran) TurnFault) (new : Driver S) (more : Type 0)
@@ -48,7 +48,7 @@ fed_so old mid p t (Ok a) rest result new more fed ends none = absurd cc
 fed_so old mid p t (Err HistoryFull) rest result new more fed ends none = absurd cc
 fed_so old mid p t (Err NoMemory) rest result new more fed ends none = fed ends.2
 
-module _ {S : Type 0} (makes : S → Call → S → Type 0) (alike : S → S → Type 0) (view : S → StoreView) (waits : S → Waits) (addresses : List ℕ) (law : TurnIsFixed makes alike view waits) where
+module _ {S : Type 0} (makes : S → Call → S → Type 0) (alike : S → S → Type 0) (view : S → StoreView) (waits : S → Waits) (holds : Holding) (law : TurnIsFixed makes alike view waits) where
   -- the clocks go on as one
   one_clock : (old mid old' mid' : Driver S) (p : Pace) (t : Turn) (a : Answer) → AreTwinDrivers alike old old' → AreTwinDrivers alike mid mid'
       → clocks_after old' mid' (late_clocks p.clocks t) t a ≡ clocks_after old mid (late_clocks p.clocks t) t a
@@ -58,19 +58,19 @@ module _ {S : Type 0} (makes : S → Call → S → Type 0) (alike : S → S →
 
   module _ (old mid old' mid' new new' : Driver S) (p : Pace) (t : Turn) (rest rest' : List ℕ) (result result' : Result (Option Ran) TurnFault) (olds : AreTwinDrivers alike old old')
       (mids : AreTwinDrivers alike mid mid')
-      (more : (a : Answer) → Evenly makes view waits addresses (pace_after old mid p t a) mid rest result new → Evenly makes view waits addresses (pace_after old mid p t a) mid' rest' result' new'
+      (more : (a : Answer) → Evenly makes view waits holds (pace_after old mid p t a) mid rest result new → Evenly makes view waits holds (pace_after old mid p t a) mid' rest' result' new'
       → IsOneRun alike rest rest' result result' new new') where
     abbrev pub goes : Answer → Type 0
-    goes a = Evenly makes view waits addresses (pace_after old mid p t a) mid rest result new
+    goes a = Evenly makes view waits holds (pace_after old mid p t a) mid rest result new
 
     abbrev pub goes' : Answer → Type 0
-    goes' a = Evenly makes view waits addresses (pace_after old' mid' p t a) mid' rest' result' new'
+    goes' a = Evenly makes view waits holds (pace_after old' mid' p t a) mid' rest' result' new'
 
     one_pace : (a : Answer) → pace_after old' mid' p t a ≡ pace_after old mid p t a
     one_pace a = λ i. record { held = (pace_after old mid p t a).held; clocks = one_clock old mid old' mid' p t a olds mids i; now = t.at }
 
     on : (a : Answer) → goes a → goes' a → IsOneRun alike (t.core ∷ rest) (t.core ∷ rest') result result' new new'
-    on a d d' = let run = more a d (subst (λ q. Evenly makes view waits addresses q mid' rest' result' new') (one_pace a) d') in
+    on a d d' = let run = more a d (subst (λ q. Evenly makes view waits holds q mid' rest' result' new') (one_pace a) d') in
         record { schedule_is = ap (λ l. t.core ∷ l) run.schedule_is; result_is = run.result_is; twins = run.twins }
 
     last : (r r' : Result (Option Ran) TurnFault) → r' ≡ r → (rest ≡ []) × (new ≡ mid) × (result ≡ r) → (rest' ≡ []) × (new' ≡ mid') × (result' ≡ r')
@@ -95,10 +95,10 @@ module _ {S : Type 0} (makes : S → Call → S → Type 0) (alike : S → S →
 
   -- the turns below one that was answered so
   abbrev below : Driver S → Driver S → Pace → List ℕ → Result (Option Ran) TurnFault → Driver S → Turn → Answer → Type 0
-  below old mid p rest result new t a = Evenly makes view waits addresses (pace_after old mid p t a) mid rest result new
+  below old mid p rest result new t a = Evenly makes view waits holds (pace_after old mid p t a) mid rest result new
 
   pub run_fixed_by : (p : Pace) (old new old' new' : Driver S) (schedule schedule' : List ℕ) (result result' : Result (Option Ran) TurnFault)
-      → AreTwinDrivers alike old old' → Evenly makes view waits addresses p old schedule result new → Evenly makes view waits addresses p old' schedule' result' new'
+      → AreTwinDrivers alike old old' → Evenly makes view waits holds p old schedule result new → Evenly makes view waits holds p old' schedule' result' new'
       → IsDone result → IsDone result' → IsOneRun alike schedule schedule' result result' new new'
   run_fixed_by p old new old' new' [] schedule' result result' twins one two done done' = absurd (done.ended one.1)
   run_fixed_by p old new old' new' (core ∷ rest) [] result result' twins one two done done' = absurd (done'.ended two.1)
@@ -108,9 +108,9 @@ module _ {S : Type 0} (makes : S → Call → S → Type 0) (alike : S → S →
       (λ a d d'. run_fixed_by (pace_after old mid p (turn_at core due at) a) mid new mid' new' rest rest' result result' step.twins d d' done done') answer more second_more)
     where
       turn_is : turn_at core' due' at' ≡ turn_at core due at
-      turn_is = one_first p.now (dues (held_in addresses old.book p.held) p.clocks) old.book.cores (turn_at core due at) (turn_at core' due' at') first
-          (subst (λ n. IsFirst p.now (dues (held_in addresses old.book p.held) p.clocks) n (turn_at core' due' at')) twins.books.cores
-          (subst (λ h. IsFirst p.now (dues h p.clocks) old'.book.cores (turn_at core' due' at')) (one_held alike addresses old.book old'.book p.held twins.books) first'))
+      turn_is = one_first p.now (dues (held_in holds old.book p.held) p.clocks) old.book.cores (turn_at core due at) (turn_at core' due' at') first
+          (subst (λ n. IsFirst p.now (dues (held_in holds old.book p.held) p.clocks) n (turn_at core' due' at')) twins.books.cores
+          (subst (λ h. IsFirst p.now (dues h p.clocks) old'.book.cores (turn_at core' due' at')) (one_held alike holds old.book old'.book p.held twins.books) first'))
 
       second : TurnedWith makes view waits old' core (p.held core) answer' mid'
       second = subst (λ (x : Turn). TurnedWith makes view waits old' x.core (p.held x.core) answer' mid') turn_is turned'
@@ -127,5 +127,5 @@ module _ {S : Type 0} (makes : S → Call → S → Type 0) (alike : S → S →
       second_more = subst (λ a. EndsOrGoes old' mid' p (turn_at core due at) a rest' result' new' (below old' mid' p rest' result' new' (turn_at core due at) (go_answer a))) step.answer_is second_ends
 
 pub run_fixed : {S : Type 0} (makes : S → Call → S → Type 0) (alike : S → S → Type 0) (view : S → StoreView) (waits : S → Waits) → TurnIsFixed makes alike view waits → RunIsFixed makes alike view waits
-run_fixed makes alike view waits law addresses p old new old' new' schedule schedule' result result' =
-    run_fixed_by makes alike view waits addresses law p old new old' new' schedule schedule' result result'
+run_fixed makes alike view waits law holds p old new old' new' schedule schedule' result result' =
+    run_fixed_by makes alike view waits holds law p old new old' new' schedule schedule' result result'

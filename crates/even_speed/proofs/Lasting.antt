@@ -30,7 +30,7 @@ use Rattle.even_speed.specs.declared.clock.Next.{Next}
 use Rattle.even_speed.specs.declared.clock.Next.TheVariants.{Due, Waits, Gone}
 use Rattle.even_speed.specs.declared.clocks.Turn.{Turn}
 use Rattle.even_speed.specs.Clocks.{answered, due_of, dues, first_clock, late, late_clocks, waits_for, woken, woken_from}
-use Rattle.even_speed.specs.Held.{are_held, epoch_run, held_in, is_held}
+use Rattle.even_speed.specs.Held.{Holding, are_held, epoch_run, held_in, is_held}
 use Rattle.even_speed.specs.Even.{Pace, clocks_after, executed_by, restarts}
 use Rattle.even_speed.specs.Kept.{IsNext, IsTurnOf}
 use Rattle.even_speed.specs.Lasting.{IsLasting, IsUnderWay, IsUndue, undue, undue_of}
@@ -109,18 +109,18 @@ module _ (image : LoadedImage) (cores : ℕ) (s : FlatState) where
   not_all_idle core Gone none un below same most left = left (omega (arith, un.2, same, most))
 
   -- a core that is held runs an epoch, and not the homefree one
-  held_runs : (addresses : List ℕ) (core : Option CoreState) (hand : Option HartState) → is_held addresses image s.homefree (epoch_run core) hand ≡ true → core ≡ None → ⊥
-  held_runs addresses None hand held idle = absurd cc
-  held_runs addresses (Some c) hand held idle = absurd cc
+  held_runs : (holds : Holding) (core : Option CoreState) (hand : Option HartState) → is_held holds image s.homefree (epoch_run core) hand ≡ true → core ≡ None → ⊥
+  held_runs holds None hand held idle = absurd cc
+  held_runs holds (Some c) hand held idle = absurd cc
 
-  free_by : (addresses : List ℕ) (hurt : Bool) (epoch : ℕ) (hand : Option HartState) → epoch ≡ s.homefree → is_held addresses image s.homefree (cond hurt None (Some epoch)) hand ≡ false
-  free_by addresses true epoch hand is = refl
-  free_by addresses false epoch None is = refl
-  free_by addresses false epoch (Some hart) is = rw (eq-eqb epoch s.homefree is) refl
+  free_by : (holds : Holding) (hurt : Bool) (epoch : ℕ) (hand : Option HartState) → epoch ≡ s.homefree → is_held holds image s.homefree (cond hurt None (Some epoch)) hand ≡ false
+  free_by holds true epoch hand is = refl
+  free_by holds false epoch None is = refl
+  free_by holds false epoch (Some hart) is = rw (eq-eqb epoch s.homefree is) refl
 
-  homefree_free : (addresses : List ℕ) (core : Option CoreState) (c : CoreState) (hand : Option HartState) → core ≡ Some c → c.epoch ≡ s.homefree
-      → is_held addresses image s.homefree (epoch_run core) hand ≡ false
-  homefree_free addresses core c hand at is = subst (λ o. is_held addresses image s.homefree (epoch_run o) hand ≡ false) (sym at) (free_by addresses c.hurt c.epoch hand is)
+  homefree_free : (holds : Holding) (core : Option CoreState) (c : CoreState) (hand : Option HartState) → core ≡ Some c → c.epoch ≡ s.homefree
+      → is_held holds image s.homefree (epoch_run core) hand ≡ false
+  homefree_free holds core c hand at is = subst (λ o. is_held holds image s.homefree (epoch_run o) hand ≡ false) (sym at) (free_by holds c.hurt c.epoch hand is)
 
   undue_free : (held : Bool) (due : Option ℕ) → held ≡ false → cond held None due ≡ None → due ≡ None
   undue_free true due free none = absurd cc
@@ -139,11 +139,11 @@ module _ (image : LoadedImage) (cores : ℕ) (s : FlatState) where
   idle_by false None next none runs never = (refl, none)
   idle_by held (Some c) next none runs never = absurd (never c refl)
 
-  pub one_is_due : (history : List Entry) (clocks : ℕ → Clock) (addresses : List ℕ) (hands : ℕ → Option HartState) → IsImage image → replay image cores history ≡ Some s → 1 ≤ cores
-      → IsUnderWay image cores s clocks → ((k : ℕ) → k < cores → dues (are_held addresses image (Some s) hands) clocks k ≡ None) → ⊥
-  one_is_due history clocks addresses hands is_image replays some way none =
-      let held = is_held addresses image s.homefree (epoch_run (s.cores 0)) (hands 0) in
-      let runs = held_runs addresses (s.cores 0) (hands 0) in
+  pub one_is_due : (history : List Entry) (clocks : ℕ → Clock) (holds : Holding) (hands : ℕ → Option HartState) → IsImage image → replay image cores history ≡ Some s → 1 ≤ cores
+      → IsUnderWay image cores s clocks → ((k : ℕ) → k < cores → dues (are_held holds image (Some s) hands) clocks k ≡ None) → ⊥
+  one_is_due history clocks holds hands is_image replays some way none =
+      let held = is_held holds image s.homefree (epoch_run (s.cores 0)) (hands 0) in
+      let runs = held_runs holds (s.cores 0) (hands 0) in
       let still = going_by held (s.cores 0) (clocks 0).next (none 0 some) runs (way.going 0) (way.undue 0 some) in
       let kept = ((replayed image cores history s is_image replays).going still).kept in
       elim (cases_eq s.homefree s.next_epoch) [
@@ -153,7 +153,7 @@ module _ (image : LoadedImage) (cores : ℕ) (s : FlatState) where
         | inr other ↦
             let r = way.run s.homefree (omega arith) (omega (arith, kept.homefree_started, other)) in
             let there = (kept.core r.0 r.1 r.2).there in
-            let due = undue_free _ (due_of (clocks r.0).next) (homefree_free addresses (s.cores r.0) r.1 (hands r.0) r.2 r.3) (none r.0 there) in
+            let due = undue_free _ (due_of (clocks r.0).next) (homefree_free holds (s.cores r.0) r.1 (hands r.0) r.2 r.3) (none r.0 there) in
             not_homefree (s.cores r.0) r.1 (clocks r.0).next due (way.undue r.0 there) r.2 r.3
       ]
 
@@ -386,12 +386,12 @@ first_lasts b s clocks none replays first =
     }
 
 -- the run isn't at its end, so a core is due
-pub never_undue : {S : Type 0} (b : BookView S) (addresses : List ℕ) (hands : ℕ → Option HartState) (now : ℕ) (clocks : ℕ → Clock) (taken count : ℕ) (next : Option Turn) → IsImage b.image
-    → 1 ≤ b.cores → count ≡ b.cores → IsLasting b clocks taken → ((t : Turn) → next ≢ Some t) → IsNext now (dues (held_in addresses b hands) clocks) count next → ⊥
-never_undue b addresses hands now clocks taken count (Some t) is_image least same l none next = none t refl
-never_undue b addresses hands now clocks taken count None is_image least same l none next =
-    one_is_due b.image b.cores l.state b.history clocks addresses hands is_image l.replays least l.under_way
-    (λ k below. subst (λ r. dues (are_held addresses b.image r hands) clocks k ≡ None) l.replays (next k (omega (arith, below, same))))
+pub never_undue : {S : Type 0} (b : BookView S) (holds : Holding) (hands : ℕ → Option HartState) (now : ℕ) (clocks : ℕ → Clock) (taken count : ℕ) (next : Option Turn) → IsImage b.image
+    → 1 ≤ b.cores → count ≡ b.cores → IsLasting b clocks taken → ((t : Turn) → next ≢ Some t) → IsNext now (dues (held_in holds b hands) clocks) count next → ⊥
+never_undue b holds hands now clocks taken count (Some t) is_image least same l none next = none t refl
+never_undue b holds hands now clocks taken count None is_image least same l none next =
+    one_is_due b.image b.cores l.state b.history clocks holds hands is_image l.replays least l.under_way
+    (λ k below. subst (λ r. dues (are_held holds b.image r hands) clocks k ≡ None) l.replays (next k (omega (arith, below, same))))
 
 -- the same, as a turn begins that was due before
 all_undue_by : (f g : ℕ → Clock) (n : ℕ) → ((k : ℕ) → k < n → undue (due_of (g k).next) ≡ undue (due_of (f k).next)) → undue_of g n ≡ undue_of f n

@@ -1,5 +1,6 @@
 pub mod Sounding
 pub mod Events
+pub mod Finding
 pub mod Seated
 pub mod Evening
 pub mod Alone

@@ -21,7 +21,7 @@ use Rattle.spec_history.proofs.Replay.Replays.{effect-idle, effect-on, legal_by}
 use Rattle.homefree.specs.BookView.{BookView}
 use Rattle.even_speed.specs.declared.seats.Seat.{Seat}
 use Rattle.even_speed.specs.Kept.{is_held_in}
-use Rattle.even_speed.specs.Held.{are_held, epoch_run, held_in, is_held}
+use Rattle.even_speed.specs.Held.{Holding, are_held, epoch_run, held_in, is_held}
 use Rattle.even_speed.specs.Seats.{epoch_kept, hurt_seat, left_seat, none_seated, noted_by, noted_idle, noted_on, seat_at, seat_of, seats_after, seats_of}
 
 -- ---- an entry
@@ -105,31 +105,32 @@ epoch_same : (o : Option CoreState) → epoch_kept (option_map seat_of o) ≡ ep
 epoch_same None = refl
 epoch_same (Some c) = refl
 
-pub held_by_seat : {S : Type 0} (b : BookView S) (addresses : List ℕ) (hands : ℕ → Option HartState) (s : FlatState) (k homefree : ℕ) (seat : Option Seat) → replay b.image b.cores b.history ≡ Some s
-    → homefree ≡ s.homefree → seat ≡ seats_after none_seated b.history k → is_held addresses b.image homefree (epoch_kept seat) (hands k) ≡ held_in addresses b hands k
-held_by_seat b addresses hands s k homefree seat replays home kept =
-    ap (λ h. is_held addresses b.image h (epoch_kept seat) (hands k)) home
-    ∙ (ap (λ e. is_held addresses b.image s.homefree e (hands k)) (ap epoch_kept (kept ∙ sym (seated b.image b.cores b.history s replays k)) ∙ epoch_same (s.cores k))
-    ∙ ap (λ r. are_held addresses b.image r hands k) (sym replays))
+pub held_by_seat : {S : Type 0} (b : BookView S) (holds : Holding) (hands : ℕ → Option HartState) (s : FlatState) (k homefree : ℕ) (seat : Option Seat) → replay b.image b.cores b.history ≡ Some s
+    → homefree ≡ s.homefree → seat ≡ seats_after none_seated b.history k → is_held holds b.image homefree (epoch_kept seat) (hands k) ≡ held_in holds b hands k
+held_by_seat b holds hands s k homefree seat replays home kept =
+    ap (λ h. is_held holds b.image h (epoch_kept seat) (hands k)) home
+    ∙ (ap (λ e. is_held holds b.image s.homefree e (hands k)) (ap epoch_kept (kept ∙ sym (seated b.image b.cores b.history s replays k)) ∙ epoch_same (s.cores k))
+    ∙ ap (λ r. are_held holds b.image r hands k) (sym replays))
 
-none_and : (a b : Bool) → (a && (b && false)) ≡ false
-none_and true true = refl
-none_and true false = refl
-none_and false b = refl
+none_and : (a b c : Bool) → c ≡ false → (a && (b && c)) ≡ false
+none_and true true c none = none
+none_and true false c none = refl
+none_and false b c none = refl
 
-none_held : (image : LoadedImage) (homefree : ℕ) (epoch : Option ℕ) (hand : Option HartState) → is_held [] image homefree epoch hand ≡ false
-none_held image homefree None hand = refl
-none_held image homefree (Some epoch) None = refl
-none_held image homefree (Some epoch) (Some hart) = none_and _ _
+none_held : (holds : Holding) (image : LoadedImage) (homefree : ℕ) (epoch : Option ℕ) (hand : Option HartState) → ((pc : ℕ) → holds.places pc ≡ false)
+    → is_held holds image homefree epoch hand ≡ false
+none_held holds image homefree None hand none = refl
+none_held holds image homefree (Some epoch) None none = refl
+none_held holds image homefree (Some epoch) (Some hart) none = none_and _ _ _ (none _)
 
-no_cores_held : (image : LoadedImage) (state : Option FlatState) (hands : ℕ → Option HartState) (k : ℕ) → are_held [] image state hands k ≡ false
-no_cores_held image None hands k = refl
-no_cores_held image (Some s) hands k = none_held image s.homefree (epoch_run (s.cores k)) (hands k)
+no_cores_held : (holds : Holding) (image : LoadedImage) (state : Option FlatState) (hands : ℕ → Option HartState) (k : ℕ) → ((pc : ℕ) → holds.places pc ≡ false)
+    → are_held holds image state hands k ≡ false
+no_cores_held holds image None hands k none = refl
+no_cores_held holds image (Some s) hands k none = none_held holds image s.homefree (epoch_run (s.cores k)) (hands k) none
 
--- with no address no core is held
-pub held_in_none : {S : Type 0} (b : BookView S) (addresses : List ℕ) (hands : ℕ → Option HartState) (k : ℕ) → addresses ≡ [] → held_in addresses b hands k ≡ false
-held_in_none b addresses hands k none =
-    ap (λ l. are_held l b.image (replay b.image b.cores b.history) hands k) none ∙ no_cores_held b.image (replay b.image b.cores b.history) hands k
+-- where no load waits no core is held
+pub held_in_none : {S : Type 0} (b : BookView S) (holds : Holding) (hands : ℕ → Option HartState) (k : ℕ) → ((pc : ℕ) → holds.places pc ≡ false) → held_in holds b hands k ≡ false
+held_in_none b holds hands k none = no_cores_held holds b.image (replay b.image b.cores b.history) hands k none
 
 -- ---- the entries that have been noted
 
@@ -185,10 +186,6 @@ none_waits n k = elim (dec_lt k n) [
   | yes there ↦ get_or-replicate n k false false there
   | no past ↦ get_or_past (replicate n false) k false (rw length-replicate (omega (arith, past)))
 ]
-
-pub no_items : (xs : List ℕ) → length xs ≡ 0 → xs ≡ []
-no_items [] none = refl
-no_items (x ∷ xs) none = absurd (omega (arith, none))
 
 -- the entries that follow are of the cores too
 pub few_by : (cores place : ℕ) (history : List Entry) → cores ≤ 16 → All (λ e. e.by < cores) history → All (λ e. e.by < 16) (drop place history)

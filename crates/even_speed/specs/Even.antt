@@ -1,5 +1,5 @@
 -- The run at even speed: each turn is that of the core which is due first, and of several the one with the lowest number. A core isn't due while it
--- is held, at a load at one of the addresses of code that are handed in; with none of them no core is held.
+-- is held, at a load that waits; where none does, no core is held.
 -- Source: this project; Oplinger, Heine and Lam, as the clocks.
 use Rattle.std.specs.Prelude.{◌≡◌, ℕ, suc, ◌+◌, ◌-◌, ◌*◌, ◌^◌, ◌<◌, ◌≤◌, Bool, ◌==◌, not, List, [], ◌∷◌, Option, Some, None, Result, Ok, Err, if◌then◌else◌}
 use Rattle.rv32_image.specs.Image.{LoadedImage}
@@ -21,7 +21,7 @@ use Rattle.even_speed.specs.declared.run.Ran.{Ran}
 use Rattle.even_speed.specs.Account.{WastesNone, steps_of}
 use Rattle.even_speed.specs.InOrder.{steps_in_order}
 use Rattle.even_speed.specs.Clocks.{IsFirst, account_of, answered, dues, first_clock, late_clocks, woken_by}
-use Rattle.even_speed.specs.Held.{held_in}
+use Rattle.even_speed.specs.Held.{Holding, held_in}
 
 -- what each core has in hand, its clock, and when the last turn began
 pub record Pace : Type 0 where
@@ -77,14 +77,14 @@ go_answer (Ok answer) = answer
 go_answer (Err fault) = Left
 
 -- the turns of a schedule, each of the core that is due first, up to the first that ends the run
-abbrev pub Evenly : {S : Type 0} → (S → Call → S → Type 0) → (S → StoreView) → (S → Waits) → List ℕ → Pace → Driver S → List ℕ → Result (Option Ran) TurnFault → Driver S → Type 0
-Evenly makes view waits addresses p old [] result new = (new ≡ old) × (result ≡ Ok None)
-Evenly {S} makes view waits addresses p old (core ∷ rest) result new =
+abbrev pub Evenly : {S : Type 0} → (S → Call → S → Type 0) → (S → StoreView) → (S → Waits) → Holding → Pace → Driver S → List ℕ → Result (Option Ran) TurnFault → Driver S → Type 0
+Evenly makes view waits holds p old [] result new = (new ≡ old) × (result ≡ Ok None)
+Evenly {S} makes view waits holds p old (core ∷ rest) result new =
     (due at : ℕ) × (mid : Driver S) × (answer : Result Answer TurnFault)
-    × IsFirst p.now (dues (held_in addresses old.book p.held) p.clocks) old.book.cores (record { core = core; due = due; at = at })
+    × IsFirst p.now (dues (held_in holds old.book p.held) p.clocks) old.book.cores (record { core = core; due = due; at = at })
     × TurnedWith makes view waits old core (p.held core) answer mid
     × EndsOrGoes old mid p (record { core = core; due = due; at = at }) answer rest result new
-    (Evenly makes view waits addresses (pace_after old mid p (record { core = core; due = due; at = at }) (go_answer answer)) mid rest result new)
+    (Evenly makes view waits holds (pace_after old mid p (record { core = core; due = due; at = at }) (go_answer answer)) mid rest result new)
 
 -- unless memory was refused
 abbrev pub UnlessRefused : Result (Option Ran) TurnFault → Type 0 → Type 0

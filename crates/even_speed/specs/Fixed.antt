@@ -9,6 +9,7 @@ use Rattle.homefree.specs.Driven.{Driver}
 use Rattle.homefree.specs.DriveFixed.{AreTwinDrivers}
 use Rattle.even_speed.specs.declared.run.Ran.{Ran}
 use Rattle.even_speed.specs.Even.{Evenly, Pace}
+use Rattle.even_speed.specs.Held.{Holding}
 
 -- the run came to the end of its loop, or its history was full
 pub record IsDone (result : Result (Option Ran) TurnFault) : Type 0 where
@@ -21,10 +22,10 @@ pub record IsOneRun {S : Type 0} (alike : S → S → Type 0) (schedule schedule
   pub result_is : result' ≡ result
   pub twins : AreTwinDrivers alike new new'
 
--- from two books with the same history, whose stores hold the same, with the same addresses of loads that wait, the cores are due in the same order, and the runs come to the same and
--- lead to two such books
+-- from two books with the same history, whose stores hold the same, where the same loads wait, the cores are due in the same order, and the runs come
+-- to the same and lead to two such books
 abbrev pub RunIsFixed : {S : Type 0} → (S → Call → S → Type 0) → (S → S → Type 0) → (S → StoreView) → (S → Waits) → Type 0
 RunIsFixed {S} makes alike view waits =
-    (addresses : List ℕ) (p : Pace) (old new old' new' : Driver S) (schedule schedule' : List ℕ) (result result' : Result (Option Ran) TurnFault)
-    → AreTwinDrivers alike old old' → Evenly makes view waits addresses p old schedule result new → Evenly makes view waits addresses p old' schedule' result' new'
+    (holds : Holding) (p : Pace) (old new old' new' : Driver S) (schedule schedule' : List ℕ) (result result' : Result (Option Ran) TurnFault)
+    → AreTwinDrivers alike old old' → Evenly makes view waits holds p old schedule result new → Evenly makes view waits holds p old' schedule' result' new'
     → IsDone result → IsDone result' → IsOneRun alike schedule schedule' result result' new new'

@@ -23,20 +23,29 @@ is_load (Store address width value) = false
 is_load Ended = false
 is_load (Fault cause pc) = false
 
--- it stands at a load at one of these addresses of code
-abbrev pub loads_at : List ℕ → Arrival → Bool
-loads_at addresses a = is_load a.at && list_any (λ address. address == a.now.pc) addresses
+-- which loads wait
+pub record Holding : Type 0 where
+  -- those at these addresses of code, until their epoch is the homefree one
+  pub places : ℕ → Bool
+
+-- the loads at these addresses
+abbrev pub loads_at : List ℕ → Holding
+loads_at addresses = record { places = λ pc. list_any (λ address. address == pc) addresses }
+
+-- it stands at a load that waits
+abbrev pub waits_at : Holding → Arrival → Bool
+waits_at holds a = is_load a.at && holds.places a.now.pc
 
 -- a core that runs this epoch, and wasn't violated, with this hart in hand: its epoch isn't the homefree one, and its next event is such a load
-abbrev pub is_held : List ℕ → LoadedImage → ℕ → Option ℕ → Option HartState → Bool
-is_held addresses image homefree (Some epoch) (Some hart) = not (epoch == homefree) && loads_at addresses (arrival_of image hart)
-is_held addresses image homefree (Some epoch) None = false
-is_held addresses image homefree None hart = false
+abbrev pub is_held : Holding → LoadedImage → ℕ → Option ℕ → Option HartState → Bool
+is_held holds image homefree (Some epoch) (Some hart) = not (epoch == homefree) && waits_at holds (arrival_of image hart)
+is_held holds image homefree (Some epoch) None = false
+is_held holds image homefree None hart = false
 
 -- so each core, in the state that a history leads to
-abbrev pub are_held : List ℕ → LoadedImage → Option FlatState → (ℕ → Option HartState) → ℕ → Bool
-are_held addresses image (Some s) hands k = is_held addresses image s.homefree (epoch_run (s.cores k)) (hands k)
-are_held addresses image None hands k = false
+abbrev pub are_held : Holding → LoadedImage → Option FlatState → (ℕ → Option HartState) → ℕ → Bool
+are_held holds image (Some s) hands k = is_held holds image s.homefree (epoch_run (s.cores k)) (hands k)
+are_held holds image None hands k = false
 
-abbrev pub held_in : {S : Type 0} → List ℕ → BookView S → (ℕ → Option HartState) → ℕ → Bool
-held_in addresses b hands = are_held addresses b.image (replay b.image b.cores b.history) hands
+abbrev pub held_in : {S : Type 0} → Holding → BookView S → (ℕ → Option HartState) → ℕ → Bool
+held_in holds b hands = are_held holds b.image (replay b.image b.cores b.history) hands

@@ -4,6 +4,7 @@
 mod account;
 mod clock;
 mod clocks;
+mod holds;
 mod laws;
 mod run;
 mod seats;
@@ -11,5 +12,6 @@ mod seats;
 pub use account::Account;
 pub use clock::{Clock, Next};
 pub use clocks::Turn;
+pub use holds::Holds;
 pub use laws::run_is_fixed;
 pub use run::{Ran, drive_evenly};

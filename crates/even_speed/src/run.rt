@@ -12,13 +12,14 @@ ghost use Rattle.homefree.specs.Grown.{GrowsBy};
 ghost use Rattle.homefree.specs.Held.{HaveArrived, harts_of, held_at, held_by};
 ghost use Rattle.even_speed.specs.Even as spec;
 ghost use Rattle.even_speed.specs.Held as held_spec;
-ghost use Rattle.even_speed.specs.Held.{held_in};
+ghost use Rattle.even_speed.specs.Held.{held_in, loads_at};
 ghost use Rattle.even_speed.specs.Kept.{NeverWaits, is_held_in};
 ghost use Rattle.even_speed.specs.Seats.{epoch_kept, none_seated, seat_at, seats_after};
 ghost use Rattle.even_speed.specs.Timed.{Leads};
 
 use crate::account::Account;
 use crate::clocks::{account_of, be_late, clock_of, first_clocks, next_turn, set_clock, wake_all};
+use crate::holds::Holds;
 use crate::seats::{Seat, note_all, seat_of};
 use homefree::{Answer, Book, MOST_ROOM, TurnFault};
 use run_ledger::Shares;
@@ -42,8 +43,7 @@ pub struct Ran {
 }
 
 /// Takes turns at even speed, up to the one that ends the loop: each of the core that is due first. It writes whose turns it took
-/// into the schedule, which is empty before. A core at a load at one of the addresses of code, which are pcs, isn't due until its epoch is
-/// the homefree one, or was violated; with no address no load waits so.
+/// into the schedule, which is empty before. A core at a load that waits isn't due until its epoch is the homefree one, or was violated.
 ///
 /// It answers what the run came to. None: the book was stopped before, or its history wasn't empty; a run from an empty history goes on up to
 /// the end of its loop, unless that fills the history or memory runs out. A fault is that of the last turn, and leaves the book of the
@@ -53,14 +53,14 @@ pub fn drive_evenly<S: EpochStore>(
     book: &mut Book<S>,
     image: &Image,
     cores: u32,
-    addresses: &[u32],
+    holds: &Holds,
     schedule: &mut Vec<u32>,
     shares: &mut Shares,
 ) -> Result<Option<Ran>, TurnFault>
     requires book { (book.old.image ≡ image.now) × (book.old.cores ≡ cores) }
     requires schedule { schedule.old.items ≡ [] }
     requires shares { IsNoMore shares.old book.old.totals }
-    ensures evenly { spec.UnlessRefused result (spec.Evenly S.makes S.view S.waits addresses.now spec.at_first (driver book.old shares.old) schedule.new.items result (driver book.new shares.new)) }
+    ensures evenly { spec.UnlessRefused result (spec.Evenly S.makes S.view S.waits (loads_at holds.now) spec.at_first (driver book.old shares.old) schedule.new.items result (driver book.new shares.new)) }
     ensures driven { spec.UnlessRefused result (Driven S.makes S.view S.waits (λ _. None) (driver book.old shares.old) schedule.new.items (spec.end_in result) (driver book.new shares.new)) }
     ensures same { IsOfSameLoop book.old book.new }
     ensures shares { IsNoMore shares.new book.new.totals }
@@ -79,7 +79,7 @@ pub fn drive_evenly<S: EpochStore>(
     note_from(&mut seats, book, 0);
     let mut now = 0;
     for _taken in 0..MOST_TURNS {
-        let waiting = held_cores(book, &seats, &held, addresses, cores);
+        let waiting = held_cores(book, &seats, &held, holds, cores);
         let Some(turn) = next_turn(&clocks, &waiting, now) else {
             return Ok(None);
         };
@@ -142,33 +142,29 @@ fn step<S: EpochStore>(
     answer
 }
 
-/// Which cores are held, of which the entries of the history tell this, and that have this in hand: those whose next event is a load at one of
-/// these addresses, that weren't violated, and whose epoch isn't the homefree one.
+/// Which cores are held, of which the entries of the history tell this, and that have this in hand: those whose next event is a load that
+/// waits, that weren't violated, and whose epoch isn't the homefree one.
 fn held_cores<S: EpochStore>(
     book: &Book<S>,
     seats: &[Option<Seat>; MAX_CORES],
     held: &[Option<Arrived>; MAX_CORES],
-    addresses: &[u32],
+    holds: &Holds,
     cores: u32,
 ) -> [bool; MAX_CORES]
     requires cores { cores ≤ 16 }
     requires seats { (k : ℕ) → seat_at seats.now k ≡ seats_after none_seated book.now.history k }
     requires held { HaveArrived book.now.image held.now }
-    ensures { (k : ℕ) → k < cores → is_held_in result k ≡ held_in addresses.now book.now (harts_of held.now) k }
+    ensures { (k : ℕ) → k < cores → is_held_in result k ≡ held_in (loads_at holds.now) book.now (harts_of held.now) k }
 {
     let mut waiting = [false; MAX_CORES];
-    if addresses.is_empty() {
+    if holds.holds_none() {
         return waiting;
     }
     let first = book.homefree();
     for core in 0..cores {
         let seat = seat_of(seats, core);
         let arrived = held_of(held, core);
-        set_held(
-            &mut waiting,
-            core,
-            is_held(first, seat, &arrived, addresses),
-        );
+        set_held(&mut waiting, core, is_held(first, seat, &arrived, holds));
     }
     waiting
 }
@@ -182,24 +178,24 @@ fn set_held(waiting: &mut [bool; MAX_CORES], core: u32, held: bool)
 }
 
 /// Whether a core is held that runs this, and has this in hand.
-fn is_held(homefree: u32, seat: Option<Seat>, arrived: &Option<Arrived>, addresses: &[u32]) -> bool
+fn is_held(homefree: u32, seat: Option<Seat>, arrived: &Option<Arrived>, holds: &Holds) -> bool
     ensures { (image : LoadedImage) → IfArrived image arrived.now
-        → result ≡ held_spec.is_held addresses.now image homefree (epoch_kept seat) (option_map (λ a. a.base) arrived.now) }
+        → result ≡ held_spec.is_held (loads_at holds.now) image homefree (epoch_kept seat) (option_map (λ a. a.base) arrived.now) }
 {
     match (seat, arrived) {
         (Some(seat), Some(arrived)) => {
-            !seat.hurt && seat.epoch != homefree && loads_at(addresses, arrived)
+            !seat.hurt && seat.epoch != homefree && waits_at(holds, arrived)
         }
         _ => false,
     }
 }
 
-/// Whether the next event is a load at one of these addresses of code.
-fn loads_at(addresses: &[u32], arrived: &Arrived) -> bool
-    ensures { result ≡ held_spec.loads_at addresses.now arrived.entry.now }
+/// Whether the next event is a load that waits.
+fn waits_at(holds: &Holds, arrived: &Arrived) -> bool
+    ensures { result ≡ held_spec.waits_at (loads_at holds.now) arrived.entry.now }
 {
     match arrived.at() {
-        Stop::Load { .. } => addresses.contains(&arrived.now().pc()),
+        Stop::Load { .. } => holds.place(arrived.now().pc()),
         _ => false,
     }
 }

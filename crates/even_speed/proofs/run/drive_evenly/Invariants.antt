@@ -10,6 +10,7 @@ use Rattle.homefree.specs.Room.{most_room}
 use Rattle.even_speed.specs.declared.run.Ran.{Ran}
 use Rattle.even_speed.specs.Clocks.{clock_at}
 use Rattle.even_speed.specs.Even.{Evenly, at_first}
+use Rattle.even_speed.specs.Held.{loads_at}
 use Rattle.even_speed.specs.Kept.{AreSound, IsAloneClock}
 use Rattle.even_speed.specs.Lasting.{IsLasting}
 use Rattle.even_speed.specs.Seats.{none_seated, seat_at, seats_after}
@@ -24,8 +25,8 @@ invariant-loop-taken g l = record {
   sound : AreSound l._taken l.book.cores l.now l.clocks.items;
   seats : (k : ℕ) → seat_at l.seats k ≡ seats_after none_seated l.book.history k;
   drives : (rest : List ℕ) (result : Result (Option Ran) TurnFault) (new : Driver g.row.S.Denot)
-      → Evenly g.S.EpochStore.makes g.S.EpochStore.view g.S.EpochStore.waits l.addresses (record { held = harts_of l.held; clocks = clock_at l.clocks.items; now = l.now }) (driver l.book l.shares) rest result new
-      → Evenly g.S.EpochStore.makes g.S.EpochStore.view g.S.EpochStore.waits l.addresses at_first (driver l.initial.book l.initial.shares) (l.schedule.items ++ rest) result new;
+      → Evenly g.S.EpochStore.makes g.S.EpochStore.view g.S.EpochStore.waits (loads_at l.holds) (record { held = harts_of l.held; clocks = clock_at l.clocks.items; now = l.now }) (driver l.book l.shares) rest result new
+      → Evenly g.S.EpochStore.makes g.S.EpochStore.view g.S.EpochStore.waits (loads_at l.holds) at_first (driver l.initial.book l.initial.shares) (l.schedule.items ++ rest) result new;
   timed : l.initial.book.history ≡ [] → (s : FlatState) × (replay l.book.image l.book.cores l.book.history ≡ Some s)
       × AreOnTime l.book.image l.book.cores s (record { held = harts_of l.held; clocks = clock_at l.clocks.items; now = l.now });
   lasting : l.initial.book.history ≡ [] → IsLasting l.book (clock_at l.clocks.items) l._taken;

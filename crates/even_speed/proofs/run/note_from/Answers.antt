@@ -1,4 +1,4 @@
-use Rattle.std.proofs.Common.{◌<◌, ◌-◌, List, All, drop, sym, ap, subst, ◌∙◌, arith}
+use Rattle.std.proofs.Common.{◌<◌, List, All, drop, sym, ap, subst, ◌∙◌, arith}
 use Rattle.rv32_image.proofs.Bounds.{most_few}
 use Rattle.spec_history.specs.declared.entry.Entry.{Entry}
 use Rattle.even_speed.specs.Seats.{seat_at, seats_after}
