@@ -25,6 +25,8 @@ pub mod Ending
 -- The loads that depend on earlier epochs.
 pub mod Flowing
 pub mod Joining
+-- The pieces of memory in which epochs store.
+pub mod Noting
 -- Lines of the caches: who stored in them, and who reads in them.
 pub mod Lining
 pub mod Buffering

@@ -1,16 +1,18 @@
 -- Definitions to believe: Paths (an epoch alone, what it stores, and what it reads from outside), Conflict (what can roll back
 -- at all), Laws (what the laws take, and what they say), Nearest (how near epochs depend on each other in order) Flow (the loads
 -- that depend on earlier epochs) Pairs (the instructions that these
--- join) and Lengths (how many instructions epochs execute).
+-- join) Stored (where epochs store) and Lengths (how many instructions epochs execute).
 pub mod Paths
 pub mod Conflict
 pub mod Laws
 pub mod Nearest
 pub mod Flow
 pub mod Pairs
+pub mod Stored
 pub mod Lengths
 -- What the code keeps.
 pub mod Kept
 pub mod KeptStores
 pub mod KeptLines
 pub mod KeptTouches
+pub mod KeptPieces

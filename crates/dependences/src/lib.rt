@@ -11,6 +11,7 @@ mod lengths;
 mod lines;
 mod nearest;
 mod pairs;
+mod stores;
 mod touches;
 
 pub use caches::{CacheConflict, conflict_over_caches};
@@ -19,3 +20,4 @@ pub use flow::{Dependence, dependences_in_order};
 pub use lengths::lengths_in_order;
 pub use nearest::nearest_dependence;
 pub use pairs::{PairSum, sums_by_pair};
+pub use stores::stores_in_order;

@@ -1,0 +1,226 @@
+-- The pieces in which an epoch stores, as they are noted.
+use Rattle.std.proofs.Common.{◌≡◌, ◌⊎◌, ℕ, ◌+◌, ◌-◌, ◌/◌, ◌<◌, ◌≤◌, Bool, List, [], ◌∷◌, ◌++◌, length, slice_index, Option, Some, None, Result, Ok, Err, OnOk, refl, sym, ap, subst, ◌∙◌, inl, inr, arith}
+use Rattle.std.specs.List.{Contains}
+use Rattle.std.proofs.lemmas.Bool.{cases_eq}
+use Rattle.std.proofs.lemmas.List.{get_or-set_other, get_or-set_same}
+use Rattle.std.proofs.lemmas.List.Elements.{Contains-append_left, Contains-push, Contains-push_cases}
+use Rattle.std.proofs.lemmas.Nat.{le-div}
+use Rattle.std.proofs.Math.Nat.{div-mul-le_self}
+use Rattle.std.proofs.Math.ListN.{set}
+use Rattle.rv32_image.specs.Image.{LoadedImage}
+use Rattle.memory_bytes.specs.Bytes.{number_at, with_number}
+use Rattle.memory_bytes.specs.Maps.{first_of, joined, nothing, stored}
+use Rattle.memory_bytes.proofs.Bytes.{stored_within}
+use Rattle.rv32_exec.specs.declared.stop.Stop.TheVariants as stop
+use Rattle.rv32_exec.specs.declared.sequential.End.TheVariants as end
+use Rattle.rv32_exec.specs.Hart.{HartState, start_of, stepped}
+use Rattle.rv32_exec.specs.NextEvent.{next_event}
+use Rattle.rv32_exec.specs.Arrival.{after_number}
+use Rattle.rv32_exec.specs.Sequential.{SequentialResult, after_stop, first_epochs}
+use Rattle.rv32_exec.specs.Laws.{HasStopped}
+use Rattle.dependences.specs.Paths.{Stores}
+use Rattle.dependences.specs.Conflict.{IsInOrder, memory_before}
+use Rattle.dependences.specs.Kept.{AreAll}
+use Rattle.dependences.specs.KeptPieces.{AreBefore, AreMore, AreNoted, IsPieceOf}
+use Rattle.dependences.specs.Stored.{AreStores, StoresInOrder}
+use Rattle.dependences.proofs.Following.{all_stored}
+use Rattle.dependences.proofs.Outside.{OnPath, seen_now}
+use Rattle.dependences.proofs.Paths.{IsAt, at_start, covered, either, load_after, past_load, past_store, path_stores, start_after, store_after}
+
+-- ---- a piece
+
+pub noted_now : (epoch piece : ℕ) (last : List ℕ) (list : List (ℕ × ℕ)) → AreNoted epoch last list → AreNoted epoch (set last piece (epoch + 1)) (list ++ (piece, epoch) ∷ [])
+noted_now epoch piece last list noted p is = elim (cases_eq p piece) [
+  | inl e ↦ subst (λ n. Contains (list ++ (piece, epoch) ∷ []) (n, epoch)) (sym e) (Contains-push list (piece, epoch))
+  | inr other ↦ Contains-append_left list ((piece, epoch) ∷ []) (p, epoch) (noted p (sym (get_or-set_other last piece p (epoch + 1) 0 other) ∙ is))
+]
+
+pub fresh_now : (epoch piece : ℕ) (last : List ℕ) → piece < length last → ((a : ℕ) → slice_index last a ≤ epoch + 1) → (a : ℕ) → slice_index (set last piece (epoch + 1)) a ≤ epoch + 1
+fresh_now epoch piece last within fresh a = elim (cases_eq a piece) [
+  | inl e ↦ let is = get_or-set_same last piece (epoch + 1) 0 within in let same = ap (λ n. slice_index (set last piece (epoch + 1)) n) e in omega (arith, is, same)
+  | inr other ↦ let is = get_or-set_other last piece a (epoch + 1) 0 other in omega (arith, is, fresh a)
+]
+
+pub more_there : (epoch piece : ℕ) (list : List (ℕ × ℕ)) → Contains list (piece, epoch) → AreMore epoch (λ p. p ≡ piece) list list
+more_there epoch piece list there = record {
+  kept = λ x in_it. in_it;
+  only = λ x in_it. inl in_it;
+  all = λ p is. subst (λ n. Contains list (n, epoch)) (sym is) there;
+}
+
+pub more_now : (epoch piece : ℕ) (list : List (ℕ × ℕ)) → AreMore epoch (λ p. p ≡ piece) list (list ++ (piece, epoch) ∷ [])
+more_now epoch piece list = record {
+  kept = λ x in_it. Contains-append_left list ((piece, epoch) ∷ []) x in_it;
+  only = λ x in_it. elim (Contains-push_cases list (piece, epoch) x in_it) [
+    | inl before ↦ inl before
+    | inr same ↦ inr (sym (ap (λ (y : ℕ × ℕ). y.1) same), sym (ap (λ (y : ℕ × ℕ). y.0) same))
+  ];
+  all = λ p is. subst (λ n. Contains (list ++ (piece, epoch) ∷ []) (n, epoch)) (sym is) (Contains-push list (piece, epoch));
+}
+
+pub noted_by : {T E : Type 0} (r : Result T E) (epoch piece : ℕ) (last : List ℕ) (list new : List (ℕ × ℕ)) → OnOk r (new ≡ list ++ (piece, epoch) ∷ []) → AreNoted epoch last list
+    → OnOk r (AreNoted epoch (set last piece (epoch + 1)) new)
+noted_by (Ok x) epoch piece last list new is noted = subst (AreNoted epoch (set last piece (epoch + 1))) (sym is) (noted_now epoch piece last list noted)
+noted_by (Err e) epoch piece last list new is noted = tt
+
+pub more_by : {T E : Type 0} (r : Result T E) (epoch piece : ℕ) (list new : List (ℕ × ℕ)) → OnOk r (new ≡ list ++ (piece, epoch) ∷ []) → OnOk r (AreMore epoch (λ p. p ≡ piece) list new)
+more_by (Ok x) epoch piece list new is = subst (AreMore epoch (λ p. p ≡ piece) list) (sym is) (more_now epoch piece list)
+more_by (Err e) epoch piece list new is = tt
+
+-- ---- the pieces of an access
+
+pub more_none : (epoch length address : ℕ) (list : List (ℕ × ℕ)) → AreMore epoch (IsPieceOf length address 0) list list
+more_none epoch length address list = record {
+  kept = λ x in_it. in_it;
+  only = λ x in_it. inl in_it;
+  all = λ p is. absurd (omega (arith, is.below));
+}
+
+wider : (length address i p : ℕ) → IsPieceOf length address i p → IsPieceOf length address (i + 1) p
+wider length address i p x = record { i = x.i; below = omega (arith, x.below); is = x.is }
+
+pub more_byte : (epoch length address i : ℕ) (old mid new : List (ℕ × ℕ)) → AreMore epoch (IsPieceOf length address i) old mid → AreMore epoch (λ p. p ≡ (address + i) / length) mid new
+    → AreMore epoch (IsPieceOf length address (i + 1)) old new
+more_byte epoch length address i old mid new was now = record {
+  kept = λ x in_it. now.kept x (was.kept x in_it);
+  only = λ x in_it. elim (now.only x in_it) [
+    | inl before ↦ elim (was.only x before) [
+      | inl first ↦ inl first
+      | inr of_it ↦ inr (of_it.0, wider length address i x.0 of_it.1)
+    ]
+    | inr of_it ↦ inr (of_it.0, record { i = i; below = omega arith; is = sym of_it.1 })
+  ];
+  all = λ p is. elim (cases_eq is.i i) [
+    | inl e ↦ now.all p (sym is.is ∙ ap (λ n. (address + n) / length) e)
+    | inr other ↦ now.kept (p, epoch) (was.all p (record { i = is.i; below = omega (arith, is.below, other); is = is.is }))
+  ];
+}
+
+div_mono : (a b n : ℕ) → 1 ≤ n → a ≤ b → a / n ≤ b / n
+div_mono a b n some most = le-div (a / n) b n (omega (arith, some)) (let up = div-mul-le_self a n in omega (arith, up, most))
+
+pub piece_within : (a b n count : ℕ) → 1 ≤ n → a ≤ b → b / n < count → a / n < count
+piece_within a b n count some most within = let mono = div_mono a b n some most in omega (arith, mono, within)
+
+-- ---- an epoch
+
+-- it has stored a byte of this piece
+pub record OwnsIn (length : ℕ) (own : ℕ → Option ℕ) (piece : ℕ) : Type 0 where
+  pub a : ℕ
+  pub byte : ℕ
+  pub has : own a ≡ Some byte
+  pub is : a / length ≡ piece
+
+-- the epoch runs over memory, and the list has what those before it store, and what it has stored so far
+pub record Storing (image : LoadedImage) (length epoch : ℕ) (now : List ℕ) (h : HartState) (list : List (ℕ × ℕ)) : Type 0 where
+  pub own : ℕ → Option ℕ
+  pub at : IsAt image epoch (memory_before image epoch) h own
+  pub is : at.after ≡ now
+  pub each : (x : ℕ × ℕ) → Contains list x → ((x.1 < epoch) × StoresInOrder image length x.1 x.0) ⊎ ((x.1 ≡ epoch) × OwnsIn length own x.0)
+  pub all : (d piece : ℕ) → d < epoch → StoresInOrder image length d piece → Contains list (piece, d)
+  pub mine : (a byte : ℕ) → own a ≡ Some byte → Contains list (a / length, epoch)
+
+pub storing_start : (image : LoadedImage) (length_of epoch : ℕ) (memory : List ℕ) (list : List (ℕ × ℕ)) → length memory ≡ image.size
+    → first_epochs image epoch ≡ record { end = end.Done epoch; bytes = memory } → AreBefore image length_of epoch list → Storing image length_of epoch memory (start_of image epoch) list
+storing_start image length_of epoch memory list long done before =
+    let bytes : memory_before image epoch ≡ memory = ap (λ (r : SequentialResult). r.bytes) done in
+    let long' : length (memory_before image epoch) ≡ image.size = ap (λ m. length m) bytes ∙ long in record {
+      own = nothing;
+      at = at_start image epoch (memory_before image epoch) long';
+      is = start_after image epoch (memory_before image epoch) long' ∙ bytes;
+      each = λ x in_it. inl (before.each x in_it);
+      all = before.all;
+      mine = λ a byte is. absurd cc;
+    }
+
+pub storing_load : (image : LoadedImage) (length_of epoch : ℕ) (now : List ℕ) (h : HartState) (list : List (ℕ × ℕ)) → Storing image length_of epoch now h list
+    → (address width : ℕ) (signed : Bool) (rd value : ℕ) → (next_event image h).at ≡ stop.Load address width signed rd → number_at (λ a. slice_index now a) address width ≡ value
+    → Storing image length_of epoch now (after_number (next_event image h).now (next_event image h).at value) list
+storing_load image length_of epoch now h list x address width signed rd value is number =
+    let seen = seen_now image epoch (memory_before image epoch) now h x.own x.at x.is address width value number in record {
+      own = x.own;
+      at = past_load image epoch (memory_before image epoch) h x.own address width signed rd value x.at is seen;
+      is = load_after image epoch (memory_before image epoch) h x.own address width signed rd value x.at is seen ∙ x.is;
+      each = x.each;
+      all = x.all;
+      mine = x.mine;
+    }
+
+still_owns : (first : Option ℕ) (second : Option ℕ) (byte : ℕ) → second ≡ Some byte → (b : ℕ) × (first_of first second ≡ Some b)
+still_owns None second byte is = (byte, is)
+still_owns (Some b) second byte is = (b, refl)
+
+owns_more : (length : ℕ) (first own : ℕ → Option ℕ) (piece : ℕ) → OwnsIn length own piece → OwnsIn length (joined first own) piece
+owns_more length first own piece x = let still = still_owns (first x.a) (own x.a) x.byte x.has in record { a = x.a; byte = still.0; has = still.1; is = x.is }
+
+owns_stored : (length address width value : ℕ) (own : ℕ → Option ℕ) (piece : ℕ) → IsPieceOf length address width piece → OwnsIn length (joined (stored address width value) own) piece
+owns_stored length address width value own piece x = record {
+  a = address + x.i;
+  byte = _;
+  has = ap (λ o. first_of o (own (address + x.i))) (stored_within address width value (address + x.i) (omega arith) (omega (arith, x.below)));
+  is = x.is;
+}
+
+pub storing_store : (image : LoadedImage) (length_of epoch : ℕ) (now : List ℕ) (h : HartState) (list list' : List (ℕ × ℕ)) → Storing image length_of epoch now h list
+    → (address width value : ℕ) → (next_event image h).at ≡ stop.Store address width value → AreMore epoch (IsPieceOf length_of address width) list list'
+    → Storing image length_of epoch (with_number now address width value) (stepped (next_event image h).now) list'
+storing_store image length_of epoch now h list list' x address width value is more = record {
+  own = joined (stored address width value) x.own;
+  at = past_store image epoch (memory_before image epoch) h x.own address width value x.at is;
+  is = store_after image epoch (memory_before image epoch) h x.own address width value x.at is ∙ ap (λ m. with_number m address width value) x.is;
+  each = λ y in_it. elim (more.only y in_it) [
+    | inl before ↦ elim (x.each y before) [
+      | inl earlier ↦ inl earlier
+      | inr of_it ↦ inr (of_it.0, owns_more length_of (stored address width value) x.own y.0 of_it.1)
+    ]
+    | inr of_it ↦ inr (of_it.0, owns_stored length_of address width value x.own y.0 of_it.1)
+  ];
+  all = λ d piece low there. more.kept (piece, d) (x.all d piece low there);
+  mine = λ a byte some. elim (either (stored address width value a) (x.own a) byte some) [
+    | inl here ↦ let within = covered address width value a here.0 here.1 in
+        more.all (a / length_of) (record { i = a - address; below = omega (arith, within.0, within.1); is = ap (λ n. n / length_of) (omega (arith, within.0)) })
+    | inr before ↦ more.kept (a / length_of, epoch) (x.mine a byte before)
+  ];
+}
+
+pub on_path : (image : LoadedImage) (length_of epoch : ℕ) (now : List ℕ) (h : HartState) (list : List (ℕ × ℕ)) → Storing image length_of epoch now h list → OnPath image epoch (memory_before image epoch) now h
+on_path image length_of epoch now h list x = record { own = x.own; at = x.at; is = x.is }
+
+-- at its end all is there that it stores
+module _ (image : LoadedImage) (length_of epoch : ℕ) (now : List ℕ) (h : HartState) (list : List (ℕ × ℕ)) (x : Storing image length_of epoch now h list) (within : epoch < image.epochs)
+    (order : IsInOrder image epoch) (stopped : HasStopped (after_stop (next_event image h).now x.at.after (next_event image h).at)) where
+  stored_here : (o : Option ℕ) (a : ℕ) → x.own a ≡ o → Stores image epoch (memory_before image epoch) a → Contains list (a / length_of, epoch)
+  stored_here (Some byte) a is stores = x.mine a byte is
+  stored_here None a is stores = absurd (all_stored image epoch (memory_before image epoch) h x.own x.at stopped a is stores)
+
+  pub stored_before : AreBefore image length_of (epoch + 1) list
+  stored_before = record {
+    each = λ y in_it. elim (x.each y in_it) [
+      | inl earlier ↦ (omega (arith, earlier.0), earlier.1)
+      | inr of_it ↦ (
+        omega (arith, of_it.0),
+        subst (λ d. StoresInOrder image length_of d y.0) (sym of_it.0)
+            (record { within = within; in_order = order; byte = of_it.1.a; of_piece = of_it.1.is; stores = path_stores x.at of_it.1.a of_it.1.byte of_it.1.has }),
+      )
+    ];
+    all = λ d piece low there. elim (cases_eq d epoch) [
+      | inl e ↦ (let here : StoresInOrder image length_of epoch piece = subst (λ n. StoresInOrder image length_of n piece) e there in
+          subst (λ n. Contains list (piece, n)) (sym e)
+          (subst (λ p. Contains list (p, epoch)) here.of_piece (stored_here (x.own here.byte) here.byte refl here.stores)))
+      | inr other ↦ x.all d piece (omega (arith, low, other)) there
+    ];
+  }
+
+-- ---- all epochs
+
+pub none_stored : (image : LoadedImage) (length_of : ℕ) (list : List (ℕ × ℕ)) → list ≡ [] → AreBefore image length_of 0 list
+none_stored image length_of list none = record {
+  each = λ x in_it. absurd (omega (arith, in_it.1, ap length none));
+  all = λ d piece low there. absurd (omega (arith, low));
+}
+
+pub all_are_stores : (image : LoadedImage) (length_of ran : ℕ) (list : List (ℕ × ℕ)) → AreAll image ran → AreBefore image length_of ran list → AreStores image length_of list
+all_are_stores image length_of ran list all before = record {
+  each = λ x in_it. (before.each x in_it).1;
+  all = λ epoch piece there. before.all epoch piece (all.no_more epoch there.within there.in_order) there;
+}
