@@ -1,6 +1,6 @@
 #!/usr/bin/env python3
-"""The program `gain` on all examples and on random images: the figures of tests/gain.txt and tests/limits.tsv, the
-sums, refusals; and `replay even`, whose turns are replayed.
+"""The program `gain` on all examples and on random images: the figures of tests/gain.txt, tests/limits.tsv and
+tests/held.tsv, the sums, refusals; and `replay even` and `replay held`, whose turns are replayed.
 
 Usage: tests/gain.py [--random N] [COMMAND ..]
 
@@ -161,6 +161,65 @@ def check_waits(program: list[str]) -> Iterator[Row]:
     yield from check_sums("recurrence", rows)
 
 
+def without_held(output: str) -> tuple[str, str]:
+    """The lines but those of held runs, and those, as lines of a store."""
+    lines = output.splitlines(keepends=True)
+    held = [line for line in lines if line.startswith("held ")]
+    return "".join(line for line in lines if line not in held), "".join(line.replace("held", "store", 1) for line in held)
+
+
+@comparing
+def check_held(program: list[str], replay: list[str]) -> Iterator[Row]:
+    """Loads that wait for what earlier epochs store in order: the steps and restarts that another program counted, and
+    the run that `replay held` shows."""
+    known: dict[str, dict[tuple[str, str], list[str]]] = {}
+    for line in (ROOT / "tests/held.tsv").read_text().splitlines()[3:]:
+        name, _, store, cores, *figures = line.split("\t")
+        known.setdefault(name, {})[store, cores] = figures
+    for name, figures_of in known.items():
+        text = (ROOT / f"examples/{name}.image").read_bytes()
+        output, errors, status = run(program, ["8", "--held"], text)
+        runs, held = without_held(output)
+        yield (f"held: {name}: the other runs", (runs, errors, status), run(program, ["8"], text))
+        yield from check_sums(f"held: {name}", lines_of(held))
+        others = {(row["store"], row["cores"]): row for row in lines_of(runs)}
+        for row in lines_of(held):
+            at = row["store"], row["cores"]
+            other = others[at]
+            if row["cores"] == "1":
+                yield (f"held: {name} {at}", (row["steps"], row["held"]), (other["steps"], "0"))
+                continue
+            yield (f"held: {name} {at}", [other["steps"], row["steps"], other["restarts"], row["restarts"]],
+                   figures_of[at])
+            printed, errors, status = run(replay, ["held", *at], text)
+            turns, _, below = printed.partition("\n")
+            again = run(replay, [*at], text + b"\n" + turns.encode("ascii") + b"\n")
+            yield (f"held: {name} {at}: replayed", again, (below, errors, status))
+            counts = next(line.split() for line in below.splitlines() if line.startswith("counts "))
+            yield (f"held: {name} {at}: restarts", counts[3], row["restarts"])
+
+
+@comparing
+def check_held_words(program: list[str], replay: list[str]) -> Iterator[Row]:
+    """`--held` stands behind the stores and before `--wait`. The lines of held runs stand each below another."""
+    for words in (["--held"], ["--held", "4"], ["4", "--held", "plain"], ["4", "--held", "--held"],
+                  ["4", "--limits", "--held"], ["4", "--wait", "00000000", "--held"], ["4", "--helds"],
+                  ["17", "--held"]):
+        yield (f"words {words}", run(program, words, COUNTER), ("", "usage\n", 2))
+    for words in (["held"], ["held", "plain"], ["held", "other", "2"], ["held", "plain", "17"],
+                  ["held", "plain", "2", "--wait", "00000000"]):
+        yield (f"replay {words}", run(replay, words, COUNTER), ("", "usage\n", 2))
+    output, errors, status = run(program, ["2", "plain", "--held", "--wait", "00000000", "--limits"], COUNTER)
+    runs, told = without_limits(output)
+    others, held = without_held(runs)
+    yield ("held, waits and limits", (errors, status, len(told)), ("", 0, 2))
+    yield ("held: where loads wait", others, run(program, ["2", "plain", "--wait", "00000000"], COUNTER)[0])
+    yield ("held: the lines", [line.split()[0] for line in runs.splitlines()], ["store", "held"] * 2)
+    yield ("held: the counter", [[row[key] for key in ("steps", "lost", "held")] for row in lines_of(held)],
+           [["24", "0", "0"], ["18", "0", "8"]])
+    yield ("an image that is refused, and held", run(program, ["2", "--held"], "size 1\n"), ("", "image 1 Range\n", 2))
+
+
 @comparing
 def check_wait_words(program: list[str]) -> Iterator[Row]:
     """`--wait` stands behind the stores, and behind it an address at least, in eight lower-case digits each."""
@@ -282,6 +341,7 @@ def main() -> int:
         left_out("gain", "it and replay weren't built beside the program that is tested")
         return 0
     script.run(*[partial(part, [str(gain)]) for part in PARTS],
+               *[partial(part, [str(gain)], [str(replay)]) for part in (check_held, check_held_words)],
                partial(check_runs, [str(gain)], [str(replay)], given.random))
     print("random images:", ", ".join(f"{seen[key]} {key}" for key in sorted(seen)))
     return script.ended()

@@ -17,7 +17,6 @@ use Rattle.homefree.specs.Driven.{Driver, Driven, driver}
 use Rattle.homefree.specs.DriveFixed.{AreTwinDrivers, DriveIsFixed}
 use Rattle.even_speed.specs.Even.{at_first}
 use Rattle.even_speed.specs.Fixed.{RunIsFixed}
-use Rattle.even_speed.specs.Held.{loads_at}
 use Rattle.all_schedules.specs.Drawn.{DrivesDrawn, drawn, most_turns}
 use Rattle.all_schedules.specs.Fixed.{DrawnHistoryIsFixed, EvenHistoryIsFixed, HistoryIsFixed, TextIsFixed}
 use Rattle.homefree.specs.Retraced.{IsNew, IsRetraced, book_over, turns_of}
@@ -59,8 +58,8 @@ module _ {S : Type 0} (starts : LoadedImage → ℕ → S → Type 0) (makes : S
       (sym two.history_is ∙ (run.twins.books.history ∙ one.history_is), run.text_is)
 
   pub even_history_fixed : RunIsFixed makes alike view waits → EvenHistoryIsFixed starts makes view waits
-  even_history_fixed law addresses l schedule schedule' result result' history history' done done' one two =
-      let run = law (loads_at addresses) at_first (driver one.makes.first no_counts) one.makes.last (driver two.makes.first no_counts) two.makes.last schedule schedule' result result'
+  even_history_fixed law holding l schedule schedule' result result' history history' done done' one two =
+      let run = law holding at_first (driver one.makes.first no_counts) one.makes.last (driver two.makes.first no_counts) two.makes.last schedule schedule' result result'
       (new_twins l one.makes.first two.makes.first one.makes.is_new two.makes.is_new) one.evenly two.evenly done done' in
       record { result_is = run.result_is; schedule_is = run.schedule_is; history_is = sym two.makes.history_is ∙ (run.twins.books.history ∙ one.makes.history_is) }
 

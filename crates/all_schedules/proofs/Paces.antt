@@ -17,8 +17,16 @@ use Rattle.trace_commands.specs.Program.{Stream}
 use Rattle.trace_commands.proofs.Audits.{keeps_itself}
 use Rattle.all_schedules.specs.declared.settings.Settings.{Settings}
 use Rattle.all_schedules.specs.Settings.{loop_with}
-use Rattle.all_schedules.specs.Paced.{IsPacedOf, IsPacedOutcome}
+use Rattle.homefree.specs.declared.book.Loop.{Loop}
+use Rattle.homefree.specs.declared.fault.TurnFault.TheVariants as fault
+use Rattle.trace_commands.specs.declared.outcome.CommandStop.{CommandStop}
+use Rattle.even_speed.specs.Held.{Holding, loads_at}
+use Rattle.all_schedules.specs.Evenly.{IsEvenFault, MakesEvenly}
+use Rattle.all_schedules.specs.Holding.{WaitsInOrder}
+use Rattle.all_schedules.specs.Paced.{IsHoldingStop, IsHoldingText, IsPacedOf, IsPacedOutcome, IsPacedStop, IsPacedText}
+use Rattle.all_schedules.specs.declared.holds.Pieces.{Pieces}
 use Rattle.all_schedules.specs.declared.paced.Pace.{Pace}
+use Rattle.all_schedules.specs.declared.paced.Pace.TheVariants.{Even, Held}
 
 module _ {S : Type 0} (starts : LoadedImage → ℕ → S → Type 0) (makes : S → Call → S → Type 0) (view : S → StoreView) (waits : S → Waits) (addresses : List ℕ) (pace : Pace) (cores : ℕ) (settings : Settings) (text : List ℕ) where
   pub paced_of_image : (image : LoadedImage) (old new : Option (List ℕ)) → image_text text ≡ Ok image → (outcome : Outcome)
@@ -51,3 +59,47 @@ module _ {S : Type 0} (starts : LoadedImage → ℕ → S → Type 0) (makes : S
         → ForText input (λ text. Conclusion (IsPacedOutcome starts makes view waits addresses pace cores settings text output output) errors.old errors.new status)
     no_memory None output errors status is line = ([], stopped [] output errors status is line)
     no_memory (Some text) output errors status is line = stopped text output errors status is line
+
+-- ---- at even speed
+
+module _ {S : Type 0} (starts : LoadedImage → ℕ → S → Type 0) (makes : S → Call → S → Type 0) (view : S → StoreView) (waits : S → Waits) (addresses : List ℕ) (l : Loop) where
+  -- where the loads at addresses wait
+  pub even_text : (h : Holding) (outcome : Outcome) (text : List ℕ) → h ≡ loads_at addresses → IsHoldingText starts makes view waits h l outcome text
+      → IsPacedText starts makes view waits addresses Even l outcome text
+  even_text h outcome text is shown = record {
+    schedule = shown.schedule;
+    history = shown.history;
+    makes = (shown.ran, subst (λ x. MakesEvenly starts makes view waits x l shown.schedule (Ok (Some shown.ran)) shown.history) is shown.makes);
+    below = shown.below;
+    shown = shown.shown;
+    text_is = shown.text_is;
+  }
+
+  pub even_stop : (h : Holding) (cause : CommandStop) → h ≡ loads_at addresses → IsHoldingStop starts makes view waits h l cause → IsPacedStop starts makes view waits addresses Even l cause
+  even_stop h cause.HistoryFull is stop = subst (λ x. IsEvenFault starts makes view waits x l fault.HistoryFull) is stop
+  even_stop h cause.NoMemory is stop = tt
+  even_stop h cause.Write is stop = stop
+  even_stop h cause.NoThread is stop = stop
+  even_stop h cause.Spent is stop = stop
+  even_stop h cause.Shut is stop = stop
+
+  -- where loads wait for what earlier epochs store
+  pub held_text : (pieces : Pieces) (h : Holding) (outcome : Outcome) (text : List ℕ) → WaitsInOrder l.image pieces h → IsHoldingText starts makes view waits h l outcome text
+      → IsPacedText starts makes view waits addresses (Held pieces) l outcome text
+  held_text pieces h outcome text held shown = record {
+    schedule = shown.schedule;
+    history = shown.history;
+    makes = (h, held, shown.ran, shown.makes);
+    below = shown.below;
+    shown = shown.shown;
+    text_is = shown.text_is;
+  }
+
+  pub held_stop : (pieces : Pieces) (h : Holding) (cause : CommandStop) → WaitsInOrder l.image pieces h → IsHoldingStop starts makes view waits h l cause
+      → IsPacedStop starts makes view waits addresses (Held pieces) l cause
+  held_stop pieces h cause.HistoryFull held stop = (h, held, stop)
+  held_stop pieces h cause.NoMemory held stop = tt
+  held_stop pieces h cause.Write held stop = stop
+  held_stop pieces h cause.NoThread held stop = stop
+  held_stop pieces h cause.Spent held stop = stop
+  held_stop pieces h cause.Shut held stop = stop

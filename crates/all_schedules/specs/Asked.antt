@@ -7,11 +7,12 @@ use Rattle.std.specs.Str.{bytes_eq}
 use Rattle.std.specs.Str.Parse.{digits_value}
 use Rattle.trace_text.specs.TraceText.{◌>>=◌}
 use Rattle.trace_commands.specs.Program.{number_up_to_16, only_up_to_16}
+use Rattle.all_schedules.specs.Holding.{pieces_of}
 use Rattle.all_schedules.specs.Addresses.{wait_place, waits_in}
 use Rattle.all_schedules.specs.declared.detail.Detail.{Detail}
 use Rattle.all_schedules.specs.declared.detail.Detail.TheVariants.{Whole, Steps}
 use Rattle.all_schedules.specs.declared.paced.Pace.{Pace}
-use Rattle.all_schedules.specs.declared.paced.Pace.TheVariants.{Even, Seeded}
+use Rattle.all_schedules.specs.declared.paced.Pace.TheVariants.{Even, Held, Seeded}
 use Rattle.trace_commands.specs.Stores.{store_named}
 use Rattle.all_schedules.specs.declared.words.Turns.{Turns}
 use Rattle.all_schedules.specs.declared.words.Turns.TheVariants.{Given, Every, Paced, Threaded}
@@ -57,6 +58,14 @@ paced pace (store ∷ words) = do
   cores ← only_up_to_16 words
   over store (Paced pace cores)
 
+-- `held STORE CORES`: at even speed, where loads wait for what earlier epochs store in order, over that store
+unfoldable pub held : List (List ℕ) → Option Request
+held [] = None
+held (name ∷ words) = do
+  cores ← only_up_to_16 words
+  store ← store_named name
+  over name (Paced (Held (pieces_of store)) cores)
+
 -- `threads STORE CORES`: a run on threads
 unfoldable pub threaded : List (List ℕ) → Option Request
 threaded [] = None
@@ -88,6 +97,7 @@ unfoldable pub command : List ℕ → List (List ℕ) → Option Request
 command word words =
     if bytes_eq word (codes "steps") then steps words
     else if bytes_eq word (codes "even") then paced Even words
+    else if bytes_eq word (codes "held") then held words
     else if bytes_eq word (codes "seeded") then seeded words
     else if bytes_eq word (codes "all") then every words
     else if bytes_eq word (codes "threads") then threaded words
@@ -109,6 +119,7 @@ abbrev pub is_even : Turns → Bool
 is_even (Given detail cores) = false
 is_even (Every cores turns) = false
 is_even (Paced Even cores) = true
+is_even (Paced (Held pieces) cores) = false
 is_even (Paced (Seeded seed) cores) = false
 is_even (Threaded cores) = false
 

@@ -13,6 +13,7 @@ use Rattle.homefree.specs.Driven.{Driver}
 use Rattle.homefree.specs.DriveFixed.{AreTwinDrivers}
 use Rattle.even_speed.specs.declared.run.Ran.{Ran}
 use Rattle.even_speed.specs.Fixed.{IsDone}
+use Rattle.even_speed.specs.Held.{Holding}
 use Rattle.all_schedules.specs.Drawn.{MakesDrawn}
 use Rattle.all_schedules.specs.Evenly.{MakesEvenly}
 use Rattle.all_schedules.specs.Made.{Makes}
@@ -48,8 +49,8 @@ pub record IsOneRun {A : Type 0} (result result' : Result (Option A) TurnFault) 
 -- so do the runs at even speed each time, where they aren't stopped
 abbrev pub EvenHistoryIsFixed : {S : Type 0} → (LoadedImage → ℕ → S → Type 0) → (S → Call → S → Type 0) → (S → StoreView) → (S → Waits) → Type 0
 EvenHistoryIsFixed starts makes view waits =
-    (addresses : List ℕ) (l : Loop) (schedule schedule' : List ℕ) (result result' : Result (Option Ran) TurnFault) (history history' : List Entry) → IsDone result → IsDone result'
-    → MakesEvenly starts makes view waits addresses l schedule result history → MakesEvenly starts makes view waits addresses l schedule' result' history'
+    (holding : Holding) (l : Loop) (schedule schedule' : List ℕ) (result result' : Result (Option Ran) TurnFault) (history history' : List Entry) → IsDone result → IsDone result'
+    → MakesEvenly starts makes view waits holding l schedule result history → MakesEvenly starts makes view waits holding l schedule' result' history'
     → IsOneRun result result' schedule schedule' history history'
 
 -- and the runs that a seed draws, unless memory runs out

@@ -4,6 +4,7 @@ pub mod Made
 pub mod Settings
 pub mod Stores
 pub mod Evenly
+pub mod Holding
 pub mod Drawn
 pub mod Survey
 pub mod SurveyText

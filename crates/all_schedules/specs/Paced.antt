@@ -17,6 +17,8 @@ use Rattle.trace_commands.specs.Outcome.{AppendsPrefix, IsRefusal}
 use Rattle.homefree.specs.declared.fault.TurnFault.{TurnFault}
 use Rattle.rv32_exec.specs.declared.sequential.End.{End}
 use Rattle.even_speed.specs.declared.run.Ran.{Ran}
+use Rattle.even_speed.specs.Held.{Holding, loads_at}
+use Rattle.all_schedules.specs.Holding.{WaitsInOrder}
 use Rattle.all_schedules.specs.declared.settings.Settings.{Settings}
 use Rattle.run_command.specs.Runnable.{IsRunnable}
 use Rattle.all_schedules.specs.Settings.{loop_with}
@@ -24,17 +26,21 @@ use Rattle.all_schedules.specs.Evenly.{IsEvenFault, MakesEvenly}
 use Rattle.all_schedules.specs.Drawn.{IsDrawnFault, MakesDrawn}
 use Rattle.all_schedules.specs.SurveyText.{turns_line}
 use Rattle.all_schedules.specs.declared.paced.Pace.{Pace}
-use Rattle.all_schedules.specs.declared.paced.Pace.TheVariants.{Even, Seeded}
+use Rattle.all_schedules.specs.declared.paced.Pace.TheVariants.{Even, Held, Seeded}
 use Rattle.all_schedules.specs.Shown.{IsShown}
 
--- the schedule is that of the pace, and makes this history; at even speed, where loads at these addresses wait, up to the end of the loop
+-- the schedule is that of the pace, and makes this history; at even speed, where loads at these addresses wait, or for what earlier epochs
+-- store in order, up to the end of the loop
 abbrev pub MakesAt : {S : Type 0} → (LoadedImage → ℕ → S → Type 0) → (S → Call → S → Type 0) → (S → StoreView) → (S → Waits) → List ℕ → Pace → Loop → List ℕ → List Entry → Type 0
-MakesAt starts makes view waits addresses Even l schedule history = (ran : Ran) × MakesEvenly starts makes view waits addresses l schedule (Ok (Some ran)) history
+MakesAt starts makes view waits addresses Even l schedule history = (ran : Ran) × MakesEvenly starts makes view waits (loads_at addresses) l schedule (Ok (Some ran)) history
+MakesAt starts makes view waits addresses (Held pieces) l schedule history =
+    (h : Holding) × WaitsInOrder l.image pieces h × (ran : Ran) × MakesEvenly starts makes view waits h l schedule (Ok (Some ran)) history
 MakesAt starts makes view waits addresses (Seeded seed) l schedule history = (end : Option End) × MakesDrawn starts makes view waits l seed schedule (Ok end) history
 
 -- the run may end in this fault
 abbrev pub IsFaultAt : {S : Type 0} → (LoadedImage → ℕ → S → Type 0) → (S → Call → S → Type 0) → (S → StoreView) → (S → Waits) → List ℕ → Pace → Loop → TurnFault → Type 0
-IsFaultAt starts makes view waits addresses Even l fault = IsEvenFault starts makes view waits addresses l fault
+IsFaultAt starts makes view waits addresses Even l fault = IsEvenFault starts makes view waits (loads_at addresses) l fault
+IsFaultAt starts makes view waits addresses (Held pieces) l fault = (h : Holding) × WaitsInOrder l.image pieces h × IsEvenFault starts makes view waits h l fault
 IsFaultAt starts makes view waits addresses (Seeded seed) l fault = IsDrawnFault starts makes view waits l seed fault
 
 -- the line of turns of the run, and below it what shows the history that it makes
@@ -51,6 +57,21 @@ abbrev pub IsPacedStop : {S : Type 0} → (LoadedImage → ℕ → S → Type 0)
 IsPacedStop starts makes view waits addresses pace l HistoryFull = IsFaultAt starts makes view waits addresses pace l fault.HistoryFull
 IsPacedStop starts makes view waits addresses pace l NoMemory = Unit {0}
 IsPacedStop starts makes view waits addresses pace l other = ⊥
+
+-- so at even speed, where these loads wait
+pub record IsHoldingText {S : Type 0} (starts : LoadedImage → ℕ → S → Type 0) (calls : S → Call → S → Type 0) (view : S → StoreView) (waits : S → Waits) (h : Holding) (l : Loop) (outcome : Outcome) (text : List ℕ) : Type 0 where
+  pub schedule : List ℕ
+  pub history : List Entry
+  pub ran : Ran
+  pub makes : MakesEvenly starts calls view waits h l schedule (Ok (Some ran)) history
+  pub below : List ℕ
+  pub shown : IsShown l.image l.cores history outcome below
+  pub text_is : text ≡ turns_line schedule ++ below
+
+abbrev pub IsHoldingStop : {S : Type 0} → (LoadedImage → ℕ → S → Type 0) → (S → Call → S → Type 0) → (S → StoreView) → (S → Waits) → Holding → Loop → CommandStop → Type 0
+IsHoldingStop starts makes view waits h l HistoryFull = IsEvenFault starts makes view waits h l fault.HistoryFull
+IsHoldingStop starts makes view waits h l NoMemory = Unit {0}
+IsHoldingStop starts makes view waits h l other = ⊥
 
 -- it was written
 abbrev pub IsPacedWritten : {S : Type 0} → (LoadedImage → ℕ → S → Type 0) → (S → Call → S → Type 0) → (S → StoreView) → (S → Waits) → List ℕ → Pace → Loop → Option (List ℕ) → Option (List ℕ) → Outcome → Type 0

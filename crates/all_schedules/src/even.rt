@@ -1,8 +1,8 @@
 //! What the run at even speed makes.
-ghost use Rattle.std.specs.Prelude.{◌≡◌, ◌≤◌, IfOk, IfErr};
+ghost use Rattle.std.specs.Prelude.{◌≤◌, IfOk, IfErr};
 ghost use Rattle.violations.specs.Rule.{IsCoreCount};
 ghost use Rattle.homefree.specs.Room.{most_room};
-ghost use Rattle.even_speed.specs.Held.{loads_at};
+ghost use Rattle.even_speed.specs.Holds.{holding_of};
 ghost use Rattle.all_schedules.specs.Made.{loop_on};
 ghost use Rattle.all_schedules.specs.Evenly as spec;
 
@@ -24,20 +24,8 @@ pub struct EvenRun<S: EpochStore> {
     pub ran: Ran,
 }
 
-/// The loads at these addresses of code wait.
-fn holds_at(alloc: Global, addresses: &[u32]) -> Result<Holds, TurnFault>
-    ensures loads { IfOk result (λ holds. loads_at holds ≡ loads_at addresses.now) }
-    ensures fault { IfErr result (λ fault. fault ≡ TurnFault.NoMemory) }
-{
-    match Vec::from_slice(alloc, addresses) {
-        Ok(addresses) => Ok(Holds::at(addresses)),
-        Err(_) => Err(TurnFault::NoMemory),
-    }
-}
-
-/// Runs a loop at even speed from an empty history on, over a fresh store, up to its end. A core waits at a load at one of these addresses
-/// of code until its epoch is the homefree one. The cores are at least 1, and the room is 16
-/// to `homefree::MOST_ROOM` entries.
+/// Runs a loop at even speed from an empty history on, over a fresh store, up to its end. The cores are at least 1, and
+/// the room is 16 to `homefree::MOST_ROOM` entries.
 ///
 /// `HistoryFull`: a turn found too few free entries. `NoMemory`: memory ran out.
 pub fn run_evenly<S: EpochStore>(
@@ -45,26 +33,25 @@ pub fn run_evenly<S: EpochStore>(
     image: &Image,
     cores: u32,
     room: u32,
-    addresses: &[u32],
+    holds: &Holds,
 ) -> Result<EvenRun<S>, TurnFault>
     requires cores { IsCoreCount image.now cores }
     requires least { 16 ≤ room }
     requires most { room ≤ most_room }
-    ensures made { IfOk result (λ run. spec.IsEvenRun S.starts S.makes S.view S.waits addresses.now (loop_on image.now cores room) run.schedule.items run.ran run.book) }
-    ensures fault { IfErr result (spec.IsEvenFault S.starts S.makes S.view S.waits addresses.now (loop_on image.now cores room)) }
+    ensures made { IfOk result (λ run. spec.IsEvenRun S.starts S.makes S.view S.waits (holding_of holds.now) (loop_on image.now cores room) run.schedule.items run.ran run.book) }
+    ensures fault { IfErr result (spec.IsEvenFault S.starts S.makes S.view S.waits (holding_of holds.now) (loop_on image.now cores room)) }
 {
     let made: Result<(Book<S>, Shares), _> = Book::new(alloc, image, cores, room);
     let Ok((mut book, mut shares)) = made else {
         return Err(TurnFault::NoMemory);
     };
-    let holds = holds_at(alloc, addresses)?;
     let mut schedule = Vec::new(alloc);
     let driven = drive_evenly(
         alloc,
         &mut book,
         image,
         cores,
-        &holds,
+        holds,
         &mut schedule,
         &mut shares,
     );

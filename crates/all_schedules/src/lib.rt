@@ -9,6 +9,7 @@ mod detail;
 mod drawing;
 mod driving;
 mod even;
+mod holds;
 mod laws;
 mod paced;
 mod print;
@@ -30,6 +31,7 @@ pub use commands::work;
 pub use detail::Detail;
 pub use driving::drive_schedule;
 pub use even::{EvenRun, run_evenly};
+pub use holds::{Pieces, holds_at, holds_in_order, pieces_of};
 pub use laws::{
     drawn_history_is_fixed, even_history_is_fixed, history_is_fixed, text_is_fixed,
     trace_is_made_again,

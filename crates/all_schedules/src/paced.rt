@@ -5,6 +5,7 @@ ghost use Rattle.rv32_image.specs.ImageText.{longest_image_text};
 ghost use Rattle.rv32_image.specs.Reading.{ForText};
 ghost use Rattle.trace_commands.specs.Outcome.{Conclusion};
 ghost use Rattle.violations.specs.Rule.{IsCoreCount};
+ghost use Rattle.even_speed.specs.Holds.{holding_of};
 ghost use Rattle.all_schedules.specs.Made.{loop_on};
 ghost use Rattle.all_schedules.specs.Settings.{loop_with};
 ghost use Rattle.all_schedules.specs.SurveyText.{turns_line};
@@ -12,10 +13,12 @@ ghost use Rattle.all_schedules.specs.Shown.{IsShown};
 ghost use Rattle.all_schedules.specs.Paced as spec;
 
 use crate::even::run_evenly;
+use crate::holds::{Pieces, holds_at, holds_in_order};
 use crate::print::print_book;
 use crate::seeded::run_seeded;
 use crate::settings::Settings;
 use crate::text::push_turns;
+use even_speed::Holds;
 use homefree::{Book, TurnFault};
 use run_command::runnable;
 use rv32_image::{Image, read_image};
@@ -29,6 +32,8 @@ use violations::EpochStore;
 pub enum Pace {
     /// Even speed.
     Even,
+    /// Even speed, where loads wait for what earlier epochs store in these pieces of memory in order.
+    Held(Pieces),
     /// What SplitMix64 draws from this seed.
     Seeded(u64),
 }
@@ -134,6 +139,7 @@ fn show_paced<S: EpochStore>(
 {
     match pace {
         Pace::Even => show_even::<S>(alloc, addresses, image, cores, room),
+        Pace::Held(pieces) => show_held::<S>(alloc, pieces, image, cores, room),
         Pace::Seeded(seed) => show_seeded::<S>(alloc, seed, image, cores, room),
     }
 }
@@ -152,7 +158,47 @@ fn show_even<S: EpochStore>(
     ensures { MatchResult result (λ shown. spec.IsPacedText S.starts S.makes S.view S.waits addresses.now Pace.Even (loop_on image.now cores room) shown.0 shown.1.items)
         (spec.IsPacedStop S.starts S.makes S.view S.waits addresses.now Pace.Even (loop_on image.now cores room)) }
 {
-    match run_evenly::<S>(alloc, image, cores, room, addresses) {
+    let Ok(holds) = holds_at(alloc, addresses) else {
+        return Err(CommandStop::NoMemory);
+    };
+    show_holding::<S>(alloc, &holds, image, cores, room)
+}
+
+/// Runs at even speed, where loads wait for what earlier epochs store in order, and shows what the turns made.
+fn show_held<S: EpochStore>(
+    alloc: Global,
+    pieces: Pieces,
+    image: &Image,
+    cores: u32,
+    room: u32,
+) -> Result<(Outcome, Vec<u8>), CommandStop>
+    requires cores { IsCoreCount image.now cores }
+    requires least { 16 ≤ room }
+    requires most { room ≤ 1048576 }
+    ensures { (addresses : List ℕ) → MatchResult result (λ shown. spec.IsPacedText S.starts S.makes S.view S.waits addresses (Pace.Held pieces) (loop_on image.now cores room) shown.0 shown.1.items)
+        (spec.IsPacedStop S.starts S.makes S.view S.waits addresses (Pace.Held pieces) (loop_on image.now cores room)) }
+{
+    let Ok(holds) = holds_in_order(alloc, image, pieces) else {
+        return Err(CommandStop::NoMemory);
+    };
+    show_holding::<S>(alloc, &holds, image, cores, room)
+}
+
+/// Runs at even speed, where these loads wait, and shows what the turns made.
+fn show_holding<S: EpochStore>(
+    alloc: Global,
+    holds: &Holds,
+    image: &Image,
+    cores: u32,
+    room: u32,
+) -> Result<(Outcome, Vec<u8>), CommandStop>
+    requires cores { IsCoreCount image.now cores }
+    requires least { 16 ≤ room }
+    requires most { room ≤ 1048576 }
+    ensures { MatchResult result (λ shown. spec.IsHoldingText S.starts S.makes S.view S.waits (holding_of holds.now) (loop_on image.now cores room) shown.0 shown.1.items)
+        (spec.IsHoldingStop S.starts S.makes S.view S.waits (holding_of holds.now) (loop_on image.now cores room)) }
+{
+    match run_evenly::<S>(alloc, image, cores, room, holds) {
         Ok(made) => match print_turns(alloc, image, cores, made.schedule.as_slice(), &made.book) {
             Ok(shown) => Ok(shown),
             Err(AllocError) => Err(CommandStop::NoMemory),

@@ -7,6 +7,7 @@ ghost use Rattle.all_schedules.specs.Work.{AreTurns};
 
 use crate::addresses::{wait_place, wait_words};
 use crate::detail::Detail;
+use crate::holds::pieces_of;
 use crate::paced::Pace;
 use std::convert::AsStr;
 use trace_commands::{Store, first_word, number_up_to_16, only_number, store_named};
@@ -63,7 +64,7 @@ fn is_even(turns: Turns) -> bool
     match turns {
         Turns::Paced { pace, cores: _ } => match pace {
             Pace::Even => true,
-            Pace::Seeded(_) => false,
+            Pace::Held(_) | Pace::Seeded(_) => false,
         },
         Turns::Given { .. } | Turns::Every { .. } | Turns::Threaded { .. } => false,
     }
@@ -90,6 +91,8 @@ fn command<S: AsStr>(word: &str, words: &[S]) -> Option<Request>
         steps(words)
     } else if word == "even" {
         paced(Pace::Even, words)
+    } else if word == "held" {
+        held(words)
     } else if word == "seeded" {
         seeded(words)
     } else if word == "all" {
@@ -138,6 +141,18 @@ fn paced<S: AsStr>(pace: Pace, words: &[S]) -> Option<Request>
     let (store, words) = first_word(words)?;
     let cores = only_number(words)?;
     over(store, Turns::Paced { pace, cores })
+}
+
+/// `held STORE CORES`.
+#[tactic(auto, unfolding(crate::specs::Asked::held))]
+fn held<S: AsStr>(words: &[S]) -> Option<Request>
+    ensures asked { result ≡ spec.held (map S.text words.now) }
+    ensures turns { IfSome result (λ request. AreTurns request.turns) }
+{
+    let (name, words) = first_word(words)?;
+    let cores = only_number(words)?;
+    let pace = Pace::Held(pieces_of(store_named(name)?));
+    over(name, Turns::Paced { pace, cores })
 }
 
 /// `threads STORE CORES`.

@@ -30,7 +30,7 @@ use Rattle.even_speed.specs.declared.clock.Next.{Next}
 use Rattle.even_speed.specs.declared.clock.Next.TheVariants.{Due, Waits, Gone}
 use Rattle.even_speed.specs.declared.clocks.Turn.{Turn}
 use Rattle.even_speed.specs.Clocks.{answered, due_of, dues, first_clock, late, late_clocks, waits_for, woken, woken_from}
-use Rattle.even_speed.specs.Held.{Holding, are_held, epoch_run, held_in, is_held}
+use Rattle.even_speed.specs.Held.{Holding, are_held, epoch_run, held_in, is_held, own_run}
 use Rattle.even_speed.specs.Even.{Pace, clocks_after, executed_by, restarts}
 use Rattle.even_speed.specs.Kept.{IsNext, IsTurnOf}
 use Rattle.even_speed.specs.Lasting.{IsLasting, IsUnderWay, IsUndue, undue, undue_of}
@@ -109,18 +109,18 @@ module _ (image : LoadedImage) (cores : ℕ) (s : FlatState) where
   not_all_idle core Gone none un below same most left = left (omega (arith, un.2, same, most))
 
   -- a core that is held runs an epoch, and not the homefree one
-  held_runs : (holds : Holding) (core : Option CoreState) (hand : Option HartState) → is_held holds image s.homefree (epoch_run core) hand ≡ true → core ≡ None → ⊥
+  held_runs : (holds : Holding) (core : Option CoreState) (hand : Option HartState) → is_held holds image s.homefree (epoch_run core) (own_run core) hand ≡ true → core ≡ None → ⊥
   held_runs holds None hand held idle = absurd cc
   held_runs holds (Some c) hand held idle = absurd cc
 
-  free_by : (holds : Holding) (hurt : Bool) (epoch : ℕ) (hand : Option HartState) → epoch ≡ s.homefree → is_held holds image s.homefree (cond hurt None (Some epoch)) hand ≡ false
-  free_by holds true epoch hand is = refl
-  free_by holds false epoch None is = refl
-  free_by holds false epoch (Some hart) is = rw (eq-eqb epoch s.homefree is) refl
+  free_by : (holds : Holding) (hurt : Bool) (epoch : ℕ) (own : ℕ → Option ℕ) (hand : Option HartState) → epoch ≡ s.homefree → is_held holds image s.homefree (cond hurt None (Some epoch)) own hand ≡ false
+  free_by holds true epoch own hand is = refl
+  free_by holds false epoch own None is = refl
+  free_by holds false epoch own (Some hart) is = rw (eq-eqb epoch s.homefree is) refl
 
   homefree_free : (holds : Holding) (core : Option CoreState) (c : CoreState) (hand : Option HartState) → core ≡ Some c → c.epoch ≡ s.homefree
-      → is_held holds image s.homefree (epoch_run core) hand ≡ false
-  homefree_free holds core c hand at is = subst (λ o. is_held holds image s.homefree (epoch_run o) hand ≡ false) (sym at) (free_by holds c.hurt c.epoch hand is)
+      → is_held holds image s.homefree (epoch_run core) (own_run core) hand ≡ false
+  homefree_free holds core c hand at is = subst (λ o. is_held holds image s.homefree (epoch_run o) (own_run o) hand ≡ false) (sym at) (free_by holds c.hurt c.epoch c.own hand is)
 
   undue_free : (held : Bool) (due : Option ℕ) → held ≡ false → cond held None due ≡ None → due ≡ None
   undue_free true due free none = absurd cc
@@ -142,7 +142,7 @@ module _ (image : LoadedImage) (cores : ℕ) (s : FlatState) where
   pub one_is_due : (history : List Entry) (clocks : ℕ → Clock) (holds : Holding) (hands : ℕ → Option HartState) → IsImage image → replay image cores history ≡ Some s → 1 ≤ cores
       → IsUnderWay image cores s clocks → ((k : ℕ) → k < cores → dues (are_held holds image (Some s) hands) clocks k ≡ None) → ⊥
   one_is_due history clocks holds hands is_image replays some way none =
-      let held = is_held holds image s.homefree (epoch_run (s.cores 0)) (hands 0) in
+      let held = is_held holds image s.homefree (epoch_run (s.cores 0)) (own_run (s.cores 0)) (hands 0) in
       let runs = held_runs holds (s.cores 0) (hands 0) in
       let still = going_by held (s.cores 0) (clocks 0).next (none 0 some) runs (way.going 0) (way.undue 0 some) in
       let kept = ((replayed image cores history s is_image replays).going still).kept in

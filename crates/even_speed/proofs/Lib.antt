@@ -1,6 +1,7 @@
 pub mod Sounding
 pub mod Events
 pub mod Finding
+pub mod Owning
 pub mod Seated
 pub mod Evening
 pub mod Alone

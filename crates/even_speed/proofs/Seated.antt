@@ -1,5 +1,7 @@
 -- What the code keeps of each core is what the history leads to, and so is which cores are held.
-use Rattle.std.proofs.Common.{◌≡◌, ℕ, ◌==◌, ◌&&◌, Bool, true, false, cond, List, [], ◌∷◌, ◌++◌, length, take, drop, get_or, All, ◌+◌, ◌-◌, ◌<◌, ◌≤◌, Option, Some, None, option_map, refl, sym, ap, subst, ◌∙◌, inl, inr, arith, eq-eqb, ne_eqb}
+use Rattle.std.proofs.Common.{◌≡◌, ℕ, ◌==◌, ◌/◌, ◌&&◌, ◌||◌, not, is_none, nat_le, Bool, true, false, cond, List, [], ◌∷◌, ◌++◌, length, take, drop, get_or, All, ◌+◌, ◌-◌, ◌<◌, ◌≤◌, Option, Some, None, option_map, refl, sym, ap, subst, ◌∙◌, inl, inr, arith, eq-eqb, ne_eqb, true≢false}
+use Rattle.std.specs.List.{list_any}
+use Rattle.std.proofs.Math.Dec.{eqb-suc-zero}
 use Rattle.std.proofs.Math.Path.{fun_ext}
 use Rattle.std.proofs.lemmas.List.{drop_all, drop_more, get_or-replicate, length-drop, get_or_past, take-append-drop}
 use Rattle.std.proofs.lemmas.List.Elements.{All-drop, All-head, All-tail, All-weaker}
@@ -9,6 +11,8 @@ use native.Mathlib.Decide.{dec_lt}
 use Rattle.std.proofs.lemmas.Bool.{cases_eq}
 use Rattle.std.proofs.lemmas.Option.{same_Some}
 use Rattle.rv32_image.specs.Image.{LoadedImage}
+use Rattle.rv32_exec.specs.declared.stop.Stop.{Stop}
+use Rattle.rv32_exec.specs.declared.stop.Stop.TheVariants as stop
 use Rattle.rv32_exec.specs.Hart.{HartState}
 use Rattle.spec_history.specs.declared.entry.Entry.{Entry}
 use Rattle.spec_history.specs.declared.entry.What.{What}
@@ -18,10 +22,15 @@ use Rattle.spec_history.specs.FlatState.{CoreState, FlatState, first_state}
 use Rattle.spec_history.specs.Refusal.{refusal_of}
 use Rattle.spec_history.specs.Replay.{replay, replay_from}
 use Rattle.spec_history.proofs.Replay.Replays.{effect-idle, effect-on, legal_by}
+use Rattle.spec_history.proofs.Searches.Tests.{all_fail}
 use Rattle.homefree.specs.BookView.{BookView}
+use Rattle.homefree.specs.Driven.{arrival_of}
 use Rattle.even_speed.specs.declared.seats.Seat.{Seat}
 use Rattle.even_speed.specs.Kept.{is_held_in}
-use Rattle.even_speed.specs.Held.{Holding, are_held, epoch_run, held_in, is_held}
+use Rattle.even_speed.specs.Held.{Holding, are_held, epoch_run, held_in, is_held, is_stored, own_run, reads_stored, waits_by}
+use Rattle.even_speed.specs.Holds.{HoldsNone, HoldsView, has_stores, holding_of}
+use Rattle.even_speed.specs.Owns.{Owned, none_own, owns_after}
+use Rattle.even_speed.proofs.Owning.{owned_all}
 use Rattle.even_speed.specs.Seats.{epoch_kept, hurt_seat, left_seat, none_seated, noted_by, noted_idle, noted_on, seat_at, seat_of, seats_after, seats_of}
 
 -- ---- an entry
@@ -105,32 +114,88 @@ epoch_same : (o : Option CoreState) → epoch_kept (option_map seat_of o) ≡ ep
 epoch_same None = refl
 epoch_same (Some c) = refl
 
-pub held_by_seat : {S : Type 0} (b : BookView S) (holds : Holding) (hands : ℕ → Option HartState) (s : FlatState) (k homefree : ℕ) (seat : Option Seat) → replay b.image b.cores b.history ≡ Some s
-    → homefree ≡ s.homefree → seat ≡ seats_after none_seated b.history k → is_held holds b.image homefree (epoch_kept seat) (hands k) ≡ held_in holds b hands k
-held_by_seat b holds hands s k homefree seat replays home kept =
-    ap (λ h. is_held holds b.image h (epoch_kept seat) (hands k)) home
-    ∙ (ap (λ e. is_held holds b.image s.homefree e (hands k)) (ap epoch_kept (kept ∙ sym (seated b.image b.cores b.history s replays k)) ∙ epoch_same (s.cores k))
-    ∙ ap (λ r. are_held holds b.image r hands k) (sym replays))
+and_no : (b : Bool) → (b && false) ≡ false
+and_no true = refl
+and_no false = refl
 
-none_and : (a b c : Bool) → c ≡ false → (a && (b && c)) ≡ false
-none_and true true c none = none
-none_and true false c none = refl
-none_and false b c none = refl
+none_stored : (holds : Holding) → ((d piece : ℕ) → holds.stores d piece ≡ false) → (homefree epoch piece : ℕ) → is_stored holds homefree epoch piece ≡ false
+none_stored holds none homefree epoch piece =
+    all_fail epoch (λ d. nat_le homefree d && holds.stores d piece) (λ d below. ap (λ b. nat_le homefree d && b) (none d piece) ∙ and_no (nat_le homefree d))
 
-none_held : (holds : Holding) (image : LoadedImage) (homefree : ℕ) (epoch : Option ℕ) (hand : Option HartState) → ((pc : ℕ) → holds.places pc ≡ false)
-    → is_held holds image homefree epoch hand ≡ false
-none_held holds image homefree None hand none = refl
-none_held holds image homefree (Some epoch) None none = refl
-none_held holds image homefree (Some epoch) (Some hart) none = none_and _ _ _ (none _)
+none_read : (holds : Holding) → ((d piece : ℕ) → holds.stores d piece ≡ false) → (homefree epoch : ℕ) (own : ℕ → Option ℕ) (address width : ℕ) → reads_stored holds homefree epoch own address width ≡ false
+none_read holds none homefree epoch own address width =
+    all_fail width (λ i. is_none (own (address + i)) && is_stored holds homefree epoch ((address + i) / holds.length))
+    (λ i below. ap (λ b. is_none (own (address + i)) && b) (none_stored holds none homefree epoch ((address + i) / holds.length)) ∙ and_no (is_none (own (address + i))))
 
-no_cores_held : (holds : Holding) (image : LoadedImage) (state : Option FlatState) (hands : ℕ → Option HartState) (k : ℕ) → ((pc : ℕ) → holds.places pc ≡ false)
+-- where no load waits for stores, it doesn't matter what a core owns
+waits_same : (holds : Holding) → ((d piece : ℕ) → holds.stores d piece ≡ false) → (homefree epoch pc : ℕ) (own own' : ℕ → Option ℕ) (at : Stop) → waits_by holds homefree epoch own pc at ≡ waits_by holds homefree epoch own' pc at
+waits_same holds none homefree epoch pc own own' (stop.Load address width signed rd) =
+    ap (λ b. holds.places pc || b) (none_read holds none homefree epoch own address width ∙ sym (none_read holds none homefree epoch own' address width))
+waits_same holds none homefree epoch pc own own' (stop.Store address width value) = refl
+waits_same holds none homefree epoch pc own own' stop.Ended = refl
+waits_same holds none homefree epoch pc own own' (stop.Fault cause at) = refl
+
+held_same : (holds : Holding) → ((d piece : ℕ) → holds.stores d piece ≡ false) → (image : LoadedImage) (homefree : ℕ) (epoch : Option ℕ) (own own' : ℕ → Option ℕ) (hand : Option HartState)
+    → is_held holds image homefree epoch own hand ≡ is_held holds image homefree epoch own' hand
+held_same holds none image homefree None own own' hand = refl
+held_same holds none image homefree (Some epoch) own own' None = refl
+held_same holds none image homefree (Some epoch) own own' (Some hart) =
+    ap (λ b. not (epoch == homefree) && b) (waits_same holds none homefree epoch (arrival_of image hart).now.pc own own' (arrival_of image hart).at)
+
+-- what an idle core owns doesn't matter
+own_same : (holds : Holding) (image : LoadedImage) (homefree : ℕ) (core : Option CoreState) (own : ℕ → Option ℕ) (hand : Option HartState) → ((c : CoreState) → core ≡ Some c → own ≡ c.own)
+    → is_held holds image homefree (epoch_run core) own hand ≡ is_held holds image homefree (epoch_run core) (own_run core) hand
+own_same holds image homefree None own hand same = refl
+own_same holds image homefree (Some c) own hand same = ap (λ o. is_held holds image homefree (epoch_run (Some c)) o hand) (same c refl)
+
+no_pairs : (xs : List (ℕ × ℕ)) → not (length xs == 0) ≡ false → xs ≡ []
+no_pairs [] none = refl
+no_pairs (x ∷ xs) none = absurd (true≢false (sym (ap not (eqb-suc-zero (length xs))) ∙ none))
+
+no_stores : (v : HoldsView) → has_stores v ≡ false → (d piece : ℕ) → (holding_of v).stores d piece ≡ false
+no_stores v none d piece = ap (list_any (λ (s : ℕ × ℕ). (s.0 == piece) && (s.1 == d))) (no_pairs v.stores none)
+
+own_by : (v : HoldsView) (image : LoadedImage) (homefree : ℕ) (core : Option CoreState) (own : ℕ → Option ℕ) (hand : Option HartState) (some : Bool) → has_stores v ≡ some
+    → (has_stores v ≡ true → (c : CoreState) → core ≡ Some c → own ≡ c.own)
+    → is_held (holding_of v) image homefree (epoch_run core) own hand ≡ is_held (holding_of v) image homefree (epoch_run core) (own_run core) hand
+own_by v image homefree core own hand true is same = own_same (holding_of v) image homefree core own hand (same is)
+own_by v image homefree core own hand false is same = held_same (holding_of v) (no_stores v is) image homefree (epoch_run core) own (own_run core) hand
+
+pub held_by_seat : {S : Type 0} (b : BookView S) (v : HoldsView) (hands : ℕ → Option HartState) (s : FlatState) (k homefree : ℕ) (seat : Option Seat) (own : Owned) → replay b.image b.cores b.history ≡ Some s
+    → homefree ≡ s.homefree → seat ≡ seats_after none_seated b.history k → (has_stores v ≡ true → own ≡ owns_after none_own b.history k)
+    → is_held (holding_of v) b.image homefree (epoch_kept seat) own.bytes (hands k) ≡ held_in (holding_of v) b hands k
+held_by_seat b v hands s k homefree seat own replays home kept owned =
+    ap (λ h. is_held (holding_of v) b.image h (epoch_kept seat) own.bytes (hands k)) home
+    ∙ (ap (λ e. is_held (holding_of v) b.image s.homefree e own.bytes (hands k)) (ap epoch_kept (kept ∙ sym (seated b.image b.cores b.history s replays k)) ∙ epoch_same (s.cores k))
+    ∙ (own_by v b.image s.homefree (s.cores k) own.bytes (hands k) (has_stores v) refl
+    (λ some c at. ap (λ (o : Owned). o.bytes) (owned some ∙ owned_all b.image b.cores b.history s replays k c at))
+    ∙ ap (λ r. are_held (holding_of v) b.image r hands k) (sym replays)))
+
+none_waiting : (holds : Holding) → ((pc : ℕ) → holds.places pc ≡ false) → ((d piece : ℕ) → holds.stores d piece ≡ false) → (homefree epoch pc : ℕ) (own : ℕ → Option ℕ) (at : Stop)
+    → waits_by holds homefree epoch own pc at ≡ false
+none_waiting holds places none homefree epoch pc own (stop.Load address width signed rd) =
+    ap (λ b. b || reads_stored holds homefree epoch own address width) (places pc) ∙ none_read holds none homefree epoch own address width
+none_waiting holds places none homefree epoch pc own (stop.Store address width value) = refl
+none_waiting holds places none homefree epoch pc own stop.Ended = refl
+none_waiting holds places none homefree epoch pc own (stop.Fault cause at) = refl
+
+none_held : (holds : Holding) → ((pc : ℕ) → holds.places pc ≡ false) → ((d piece : ℕ) → holds.stores d piece ≡ false) → (image : LoadedImage) (homefree : ℕ) (epoch : Option ℕ) (own : ℕ → Option ℕ)
+    (hand : Option HartState) → is_held holds image homefree epoch own hand ≡ false
+none_held holds places none image homefree None own hand = refl
+none_held holds places none image homefree (Some epoch) own None = refl
+none_held holds places none image homefree (Some epoch) own (Some hart) =
+    ap (λ b. not (epoch == homefree) && b) (none_waiting holds places none homefree epoch (arrival_of image hart).now.pc own (arrival_of image hart).at) ∙ and_no (not (epoch == homefree))
+
+no_cores_held : (holds : Holding) → ((pc : ℕ) → holds.places pc ≡ false) → ((d piece : ℕ) → holds.stores d piece ≡ false) → (image : LoadedImage) (state : Option FlatState) (hands : ℕ → Option HartState) (k : ℕ)
     → are_held holds image state hands k ≡ false
-no_cores_held holds image None hands k none = refl
-no_cores_held holds image (Some s) hands k none = none_held holds image s.homefree (epoch_run (s.cores k)) (hands k) none
+no_cores_held holds places none image None hands k = refl
+no_cores_held holds places none image (Some s) hands k = none_held holds places none image s.homefree (epoch_run (s.cores k)) (own_run (s.cores k)) (hands k)
 
 -- where no load waits no core is held
-pub held_in_none : {S : Type 0} (b : BookView S) (holds : Holding) (hands : ℕ → Option HartState) (k : ℕ) → ((pc : ℕ) → holds.places pc ≡ false) → held_in holds b hands k ≡ false
-held_in_none b holds hands k none = no_cores_held holds b.image (replay b.image b.cores b.history) hands k none
+pub held_in_none : {S : Type 0} (b : BookView S) (v : HoldsView) (hands : ℕ → Option HartState) (k : ℕ) → HoldsNone v → held_in (holding_of v) b hands k ≡ false
+held_in_none b v hands k none =
+    no_cores_held (holding_of v) (λ pc. ap (list_any (λ a. a == pc)) none.places) (λ d piece. ap (list_any (λ (s : ℕ × ℕ). (s.0 == piece) && (s.1 == d))) none.stores) b.image
+    (replay b.image b.cores b.history) hands k
 
 -- ---- the entries that have been noted
 

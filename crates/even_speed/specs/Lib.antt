@@ -6,9 +6,11 @@ pub mod Held
 pub mod Even
 pub mod InOrder
 pub mod Fixed
--- Words of contracts: what the code keeps of the cores, what is kept of the clocks along a run, what a turn makes of the cores, and why a run
+-- Words of contracts: what the code keeps of the loads that wait and of the cores, what is kept of the clocks along a run, what a turn makes of the cores, and why a run
 -- ends.
+pub mod Holds
 pub mod Seats
+pub mod Owns
 pub mod Kept
 pub mod Timed
 pub mod Lasting

@@ -1,48 +1,131 @@
 //! Which loads wait.
-ghost use Rattle.std.specs.Prelude.{◌≡◌, ℕ, true, false};
-ghost use Rattle.even_speed.specs.Held.{loads_at};
+ghost use Rattle.std.specs.Prelude.{◌≡◌, ℕ, ◌≤◌, ◌<◌, ◌+◌, ◌/◌, ◌^◌, ◌&&◌, is_none, slice_get, true, false};
+ghost use Rattle.std.specs.List.Sorted.{IsPartitionPoint, IsSorted};
+ghost use Rattle.memory_bytes.specs.Shadow.{byte_in};
+ghost use Rattle.even_speed.specs.Held as held;
+ghost use Rattle.even_speed.specs.Holds as spec;
+ghost use Rattle.even_speed.specs.Holds.{holding_of};
 
+use memory_bytes::ShadowBytes;
 use std::marker::Model;
 
-/// Which loads of a run wait until their epoch is the homefree one: those at some addresses of code. Finding one takes a time that grows
-/// with the logarithm of their number.
+/// Which loads of a run wait: those at some addresses of code, until their epoch is the homefree one; and those of pieces of memory in which
+/// earlier epochs store, until these have committed. Finding one takes a time that grows with the logarithm of their number.
 #[derive(Drop)]
 pub struct Holds {
     /// The addresses, in ascending order.
     places: Vec<u32>,
+    /// The pieces, each with an epoch that stores there, in ascending order.
+    stores: Vec<(u32, u32)>,
+    /// How many bytes a piece has.
+    length: u32,
 }
 
 impl Model for Holds {
-    ghost use Rattle.std.specs.Prelude.{ℕ, List};
-    ghost use Rattle.std.specs.List.Sorted.{IsNonDecreasing};
+    ghost use Rattle.even_speed.specs.Holds.{AreOrdered, HoldsView};
 
-    ghost Value = { List ℕ };
+    ghost Value = { HoldsView };
 
-    ghost view = { λ h. h.places.items };
+    ghost view = { λ h. record { places = h.places.items; stores = h.stores.items; length = h.length } };
 
-    ghost invariant = { λ h. IsNonDecreasing h.places.items };
+    ghost invariant = { λ h. AreOrdered h.places.items h.stores.items h.length };
 }
 
 impl Holds {
-    /// The loads at these addresses of code, which are pcs, wait; with no address none does.
-    pub fn at(mut addresses: Vec<u32>) -> Holds
-        ensures { loads_at result ≡ loads_at addresses.items }
+    /// The loads at these addresses of code wait, which are pcs, and those of these pieces of memory of so many bytes, each with an epoch that
+    /// stores there: the byte at an address lies in the piece of that number by the length.
+    pub fn new(mut addresses: Vec<u32>, mut stores: Vec<(u32, u32)>, length: u32) -> Holds
+        requires { 1 ≤ length }
+        ensures { holding_of result ≡ held.holding addresses.items stores.items length }
     {
         addresses.sort_unstable();
-        Holds { places: addresses }
+        stores.sort_unstable();
+        Holds {
+            places: addresses,
+            stores,
+            length,
+        }
     }
 
-    /// Whether it is known that no load waits.
+    /// Whether no load waits.
     pub(crate) fn holds_none(&self) -> bool
-        ensures { result ≡ true → (pc : ℕ) → (loads_at self.now).places pc ≡ false }
+        ensures { result ≡ true → spec.HoldsNone self.now }
     {
-        self.places.is_empty()
+        self.places.is_empty() && self.stores.is_empty()
+    }
+
+    /// Whether loads wait for stores.
+    pub(crate) fn has_stores(&self) -> bool
+        ensures { result ≡ spec.has_stores self.now }
+    {
+        !self.stores.is_empty()
     }
 
     /// Whether the loads at this address of code wait.
     pub(crate) fn place(&self, pc: u32) -> bool
-        ensures { result ≡ (loads_at self.now).places pc }
+        ensures { result ≡ (holding_of self.now).places pc }
     {
         self.places.binary_search(&pc).is_ok()
     }
+
+    /// Whether a load of these bytes, by this epoch, with these bytes of its own, waits for the stores of an earlier one, from the homefree one on.
+    pub(crate) fn reads_stored(
+        &self,
+        homefree: u32,
+        epoch: u32,
+        own: &ShadowBytes,
+        addr: u32,
+        width: u32,
+    ) -> bool
+        requires { addr + width < 2 ^ 32 }
+        ensures { result ≡ held.reads_stored (holding_of self.now) homefree epoch (byte_in own.now.cells) addr width }
+    {
+        for i in 0..width {
+            if self.reads_byte(homefree, epoch, own, addr + i) {
+                return true;
+            }
+        }
+        false
+    }
+
+    /// So of a load of one byte.
+    fn reads_byte(&self, homefree: u32, epoch: u32, own: &ShadowBytes, byte: u32) -> bool
+        ensures { result ≡ (is_none (byte_in own.now.cells byte) && held.is_stored (holding_of self.now) homefree epoch (byte / (holding_of self.now).length)) }
+    {
+        own.get(byte).is_none() && self.is_stored(homefree, epoch, self.piece(byte))
+    }
+
+    /// The piece in which a byte lies.
+    fn piece(&self, byte: u32) -> u32
+        ensures { result ≡ byte / (holding_of self.now).length }
+    {
+        byte / self.length
+    }
+
+    /// Whether an epoch from the homefree one up to this one, without it, stores in the piece.
+    fn is_stored(&self, homefree: u32, epoch: u32, piece: u32) -> bool
+        ensures { result ≡ held.is_stored (holding_of self.now) homefree epoch piece }
+    {
+        let stores = self.stores.as_slice();
+        let index = count_before(stores, piece, homefree);
+        is_of(stores, index, piece, epoch)
+    }
+}
+
+/// Whether the store with this index is one in the piece by an epoch before that one.
+fn is_of(stores: &[(u32, u32)], index: usize, piece: u32, epoch: u32) -> bool
+    ensures { result ≡ spec.is_of piece epoch (slice_get stores.now index) }
+{
+    match stores.get(index) {
+        Some(store) => store.0 == piece && store.1 < epoch,
+        None => false,
+    }
+}
+
+/// How many stores stand before those in this piece from an epoch on.
+fn count_before(stores: &[(u32, u32)], piece: u32, epoch: u32) -> usize
+    requires { IsSorted spec.pair_order stores.now }
+    ensures { IsPartitionPoint (λ x. spec.is_before piece epoch x ≡ true) (λ x. spec.is_before piece epoch x ≡ false) stores.now result }
+{
+    stores.partition_point(|x| x.0 < piece || x.0 == piece && x.1 < epoch)
 }

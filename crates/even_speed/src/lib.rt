@@ -6,6 +6,7 @@ mod clock;
 mod clocks;
 mod holds;
 mod laws;
+mod owns;
 mod run;
 mod seats;
 

@@ -1,5 +1,6 @@
 //! The turns of a run at even speed.
-ghost use Rattle.std.specs.Prelude.{◌≡◌, ◌≢◌, ◌≤◌, ◌<◌, ◌-◌, ◌+◌, ◌*◌, ◌^◌, [], ℕ, None, Some, Ok, length, take, option_map, ◌==◌, if◌then◌else◌};
+ghost use Rattle.std.specs.Prelude.{◌≡◌, ◌≢◌, ◌≤◌, ◌<◌, ◌-◌, ◌+◌, ◌*◌, ◌^◌, [], ℕ, None, Some, Ok, OnOk, true, length, take, option_map, ◌==◌, if◌then◌else◌};
+ghost use Rattle.memory_bytes.specs.Shadow.{byte_in};
 ghost use Rattle.rv32_image.specs.Image.{IsImage, LoadedImage};
 ghost use Rattle.rv32_exec.specs.Hart.{HartState};
 ghost use Rattle.rv32_exec.specs.NextEvent.{next_event};
@@ -12,18 +13,22 @@ ghost use Rattle.homefree.specs.Grown.{GrowsBy};
 ghost use Rattle.homefree.specs.Held.{HaveArrived, harts_of, held_at, held_by};
 ghost use Rattle.even_speed.specs.Even as spec;
 ghost use Rattle.even_speed.specs.Held as held_spec;
-ghost use Rattle.even_speed.specs.Held.{held_in, loads_at};
+ghost use Rattle.even_speed.specs.Held.{held_in};
+ghost use Rattle.even_speed.specs.Holds.{has_stores, holding_of};
 ghost use Rattle.even_speed.specs.Kept.{NeverWaits, is_held_in};
+ghost use Rattle.even_speed.specs.Owns.{none_own, own_at, owns_after};
 ghost use Rattle.even_speed.specs.Seats.{epoch_kept, none_seated, seat_at, seats_after};
 ghost use Rattle.even_speed.specs.Timed.{Leads};
 
 use crate::account::Account;
 use crate::clocks::{account_of, be_late, clock_of, first_clocks, next_turn, set_clock, wake_all};
 use crate::holds::Holds;
+use crate::owns::{Own, bytes_of, first_owns, keep_all};
 use crate::seats::{Seat, note_all, seat_of};
 use homefree::{Answer, Book, MOST_ROOM, TurnFault};
+use memory_bytes::ShadowBytes;
 use run_ledger::Shares;
-use rv32_exec::{Arrived, End, Image, Stop};
+use rv32_exec::{Arrived, End, Image, NoMemory, Stop};
 use std::alloc::Global;
 use violations::{EpochStore, MAX_CORES};
 
@@ -60,7 +65,7 @@ pub fn drive_evenly<S: EpochStore>(
     requires book { (book.old.image ≡ image.now) × (book.old.cores ≡ cores) }
     requires schedule { schedule.old.items ≡ [] }
     requires shares { IsNoMore shares.old book.old.totals }
-    ensures evenly { spec.UnlessRefused result (spec.Evenly S.makes S.view S.waits (loads_at holds.now) spec.at_first (driver book.old shares.old) schedule.new.items result (driver book.new shares.new)) }
+    ensures evenly { spec.UnlessRefused result (spec.Evenly S.makes S.view S.waits (holding_of holds.now) spec.at_first (driver book.old shares.old) schedule.new.items result (driver book.new shares.new)) }
     ensures driven { spec.UnlessRefused result (Driven S.makes S.view S.waits (λ _. None) (driver book.old shares.old) schedule.new.items (spec.end_in result) (driver book.new shares.new)) }
     ensures same { IsOfSameLoop book.old book.new }
     ensures shares { IsNoMore shares.new book.new.totals }
@@ -77,9 +82,15 @@ pub fn drive_evenly<S: EpochStore>(
     let mut held = [None; MAX_CORES];
     let mut seats = [None; MAX_CORES];
     note_from(&mut seats, book, 0);
+    let Ok(mut owns) = first_owns(alloc, cores) else {
+        return Err(TurnFault::NoMemory);
+    };
+    let Ok(()) = keep_from(&mut owns, book, holds, 0) else {
+        return Err(TurnFault::NoMemory);
+    };
     let mut now = 0;
     for _taken in 0..MOST_TURNS {
-        let waiting = held_cores(book, &seats, &held, holds, cores);
+        let waiting = held_cores(book, image, &seats, &owns, &held, holds, cores);
         let Some(turn) = next_turn(&clocks, &waiting, now) else {
             return Ok(None);
         };
@@ -93,6 +104,9 @@ pub fn drive_evenly<S: EpochStore>(
         let place = book.len();
         let answer = step(book, &mut held, turn.core, shares)?;
         note_from(&mut seats, book, place);
+        let Ok(()) = keep_from(&mut owns, book, holds, place) else {
+            return Err(TurnFault::NoMemory);
+        };
         let restarted = book.totals().restarts != restarts;
         let executed = executed_by(image, &held, turn.core, &answer);
         let clock = clock.answered(turn.at, restarted, executed, &answer);
@@ -142,19 +156,25 @@ fn step<S: EpochStore>(
     answer
 }
 
-/// Which cores are held, of which the entries of the history tell this, and that have this in hand: those whose next event is a load that
-/// waits, that weren't violated, and whose epoch isn't the homefree one.
+/// Which cores are held, of which the entries of the history tell this, that have stored this, and that have this in hand: those whose next event
+/// is a load that waits, that weren't violated, and whose epoch isn't the homefree one.
 fn held_cores<S: EpochStore>(
     book: &Book<S>,
+    image: &Image,
     seats: &[Option<Seat>; MAX_CORES],
+    owns: &[Own],
     held: &[Option<Arrived>; MAX_CORES],
     holds: &Holds,
     cores: u32,
 ) -> [bool; MAX_CORES]
-    requires cores { cores ≤ 16 }
+    requires image { book.now.image ≡ image.now }
+    requires limits { IsImage image.now }
+    requires few { cores ≤ 16 }
+    requires cores { length owns.now ≡ cores }
     requires seats { (k : ℕ) → seat_at seats.now k ≡ seats_after none_seated book.now.history k }
+    requires owns { has_stores holds.now ≡ true → (k : ℕ) → own_at owns.now k ≡ owns_after none_own book.now.history k }
     requires held { HaveArrived book.now.image held.now }
-    ensures { (k : ℕ) → k < cores → is_held_in result k ≡ held_in (loads_at holds.now) book.now (harts_of held.now) k }
+    ensures { (k : ℕ) → k < cores → is_held_in result k ≡ held_in (holding_of holds.now) book.now (harts_of held.now) k }
 {
     let mut waiting = [false; MAX_CORES];
     if holds.holds_none() {
@@ -164,7 +184,9 @@ fn held_cores<S: EpochStore>(
     for core in 0..cores {
         let seat = seat_of(seats, core);
         let arrived = held_of(held, core);
-        set_held(&mut waiting, core, is_held(first, seat, &arrived, holds));
+        let own = bytes_of(owns, core);
+        let waits = is_held(image, holds, first, seat, own, &arrived);
+        set_held(&mut waiting, core, waits);
     }
     waiting
 }
@@ -177,27 +199,69 @@ fn set_held(waiting: &mut [bool; MAX_CORES], core: u32, held: bool)
     waiting[core as usize] = held;
 }
 
-/// Whether a core is held that runs this, and has this in hand.
-fn is_held(homefree: u32, seat: Option<Seat>, arrived: &Option<Arrived>, holds: &Holds) -> bool
-    ensures { (image : LoadedImage) → IfArrived image arrived.now
-        → result ≡ held_spec.is_held (loads_at holds.now) image homefree (epoch_kept seat) (option_map (λ a. a.base) arrived.now) }
+/// Whether a core is held that runs this, has stored this, and has this in hand.
+fn is_held(
+    image: &Image,
+    holds: &Holds,
+    homefree: u32,
+    seat: Option<Seat>,
+    own: &ShadowBytes,
+    arrived: &Option<Arrived>,
+) -> bool
+    requires image { IsImage image.now }
+    requires arrived { IfArrived image.now arrived.now }
+    ensures { result ≡ held_spec.is_held (holding_of holds.now) image.now homefree (epoch_kept seat) (byte_in own.now.cells) (option_map (λ a. a.base) arrived.now) }
 {
     match (seat, arrived) {
         (Some(seat), Some(arrived)) => {
-            !seat.hurt && seat.epoch != homefree && waits_at(holds, arrived)
+            !seat.hurt
+                && seat.epoch != homefree
+                && waits_at(image, holds, homefree, seat.epoch, own, arrived)
         }
         _ => false,
     }
 }
 
-/// Whether the next event is a load that waits.
-fn waits_at(holds: &Holds, arrived: &Arrived) -> bool
-    ensures { result ≡ held_spec.waits_at (loads_at holds.now) arrived.entry.now }
+/// Whether the next event of a core of this epoch, which has stored this, is a load that waits.
+fn waits_at(
+    image: &Image,
+    holds: &Holds,
+    homefree: u32,
+    epoch: u32,
+    own: &ShadowBytes,
+    arrived: &Arrived,
+) -> bool
+    requires image { IsImage image.now }
+    requires arrived { IfArrived image.now (Some arrived.now) }
+    ensures { result ≡ held_spec.waits_at (holding_of holds.now) homefree epoch (byte_in own.now.cells) arrived.entry.now }
 {
+    let _ = image;
     match arrived.at() {
-        Stop::Load { .. } => holds.place(arrived.now().pc()),
+        Stop::Load { addr, width, .. } => {
+            holds.place(arrived.now().pc()) || holds.reads_stored(homefree, epoch, own, addr, width)
+        }
         _ => false,
     }
+}
+
+/// Notes what the entries of the history from this place on made of what the cores have stored, where loads wait for stores.
+fn keep_from<S: EpochStore>(
+    owns: &mut Vec<Own>,
+    book: &Book<S>,
+    holds: &Holds,
+    place: usize,
+) -> Result<(), NoMemory>
+    requires place { place ≤ length book.now.history }
+    requires cores { length owns.old.items ≡ book.now.cores }
+    requires owns { has_stores holds.now ≡ true → (k : ℕ) → own_at owns.old.items k ≡ owns_after none_own (take place book.now.history) k }
+    ensures cores { length owns.new.items ≡ length owns.old.items }
+    ensures owns { OnOk result (has_stores holds.now ≡ true → (k : ℕ) → own_at owns.new.items k ≡ owns_after none_own book.now.history k) }
+{
+    if !holds.has_stores() {
+        return Ok(());
+    }
+    book.look();
+    keep_all(owns, &book.history()[place..])
 }
 
 /// Notes the entries of the history from this place on.

@@ -10,30 +10,33 @@ use Rattle.violations.specs.Rule.{IsCoreCount}
 use Rattle.all_schedules.specs.Made.{loop_on}
 use Rattle.gain.specs.declared.measure.Measured.{Measured}
 use Rattle.gain.specs.Measured.{IsMeasured}
-use Rattle.gain.specs.Text.{line_text, shows_held}
-use Rattle.gain.specs.Lines.{AddEach, AddLines, count_if, more_counts}
+use Rattle.gain.specs.Text.{line_text}
+use Rattle.gain.specs.Lines.{AddEach, AddHeld, AddLines, Waiting, count_if, more_counts}
 use Rattle.gain.specs.Limits.{AddLimit, AddLimits}
 
-module _ {S : Type 0} (starts : LoadedImage → ℕ → S → Type 0) (makes : S → Call → S → Type 0) (view : S → StoreView) (waits : S → Waits) (addresses : List ℕ) (image : LoadedImage) (room : ℕ) (store : List ℕ) (first : Option Measured) (counts start : List ℕ) where
-  pub adds_more : (i : ℕ) (text text' : List ℕ) (told : Option Measured) → i < length counts
-      → ((new : List ℕ) → AddEach starts makes view waits addresses image room store first (drop i counts) text new → AddEach starts makes view waits addresses image room store first counts start new)
-      → IsMeasured starts makes view waits addresses (loop_on image (get_or counts i 0) room) told → text' ≡ text ++ line_text (shows_held addresses) store (get_or counts i 0) first told
-      → (new : List ℕ) → AddEach starts makes view waits addresses image room store first (drop (i + 1) counts) text' new → AddEach starts makes view waits addresses image room store first counts start new
-  adds_more i text text' told there adds measured longer new more =
-      adds new (subst (λ ks. AddEach starts makes view waits addresses image room store first ks text new) (sym (drop_more counts i 0 there))
-      (told, measured, subst (λ t. AddEach starts makes view waits addresses image room store first (drop (i + 1) counts) t new) longer more))
+module _ {S : Type 0} (starts : LoadedImage → ℕ → S → Type 0) (makes : S → Call → S → Type 0) (view : S → StoreView) (waits : S → Waits) (w : Waiting) (image : LoadedImage) (room : ℕ) (store : List ℕ) (first : Option Measured) (counts start : List ℕ) where
+  pub adds_more : (i : ℕ) (text mid text' : List ℕ) (told : Option Measured) → i < length counts
+      → ((new : List ℕ) → AddEach starts makes view waits w image room store first (drop i counts) text new → AddEach starts makes view waits w image room store first counts start new)
+      → IsMeasured starts makes view waits w.holding (loop_on image (get_or counts i 0) room) told → mid ≡ text ++ line_text false w.told store (get_or counts i 0) first told
+      → AddHeld starts makes view waits w.held image room store first (get_or counts i 0) mid text'
+      → (new : List ℕ) → AddEach starts makes view waits w image room store first (drop (i + 1) counts) text' new → AddEach starts makes view waits w image room store first counts start new
+  adds_more i text mid text' told there adds measured longer held new more =
+      adds new (subst (λ ks. AddEach starts makes view waits w image room store first ks text new) (sym (drop_more counts i 0 there))
+      (told, measured, text', subst (λ t. AddHeld starts makes view waits w.held image room store first (get_or counts i 0) t text') longer held, more))
 
 -- the line of one core, and those of more
-pub lines_of : {S T E : Type 0} (starts : LoadedImage → ℕ → S → Type 0) (makes : S → Call → S → Type 0) (view : S → StoreView) (waits : S → Waits) (addresses : List ℕ) (image : LoadedImage) (room cores : ℕ) (store : List ℕ) (first : Option Measured)
-    (counts old mid new : List ℕ) (result : Result T E) → counts ≡ more_counts cores → mid ≡ old ++ line_text (shows_held addresses) store 1 first first → IsMeasured starts makes view waits addresses (loop_on image 1 room) first
-    → OnOk result (AddEach starts makes view waits addresses image room store first counts mid new) → OnOk result (AddLines starts makes view waits addresses image room store cores old new)
-lines_of starts makes view waits addresses image room cores store first counts old mid new (Ok done) are longer measured each = (
+pub lines_of : {S T E : Type 0} (starts : LoadedImage → ℕ → S → Type 0) (makes : S → Call → S → Type 0) (view : S → StoreView) (waits : S → Waits) (w : Waiting) (image : LoadedImage) (room cores : ℕ) (store : List ℕ) (first : Option Measured)
+    (counts old mid after new : List ℕ) (result : Result T E) → counts ≡ more_counts cores → mid ≡ old ++ line_text false w.told store 1 first first → IsMeasured starts makes view waits w.holding (loop_on image 1 room) first
+    → AddHeld starts makes view waits w.held image room store first 1 mid after
+    → OnOk result (AddEach starts makes view waits w image room store first counts after new) → OnOk result (AddLines starts makes view waits w image room store cores old new)
+lines_of starts makes view waits w image room cores store first counts old mid after new (Ok done) are longer measured held each = (
   first,
   measured,
-  subst (λ ks. AddEach starts makes view waits addresses image room store first ks (old ++ line_text (shows_held addresses) store 1 first first) new) are
-      (subst (λ t. AddEach starts makes view waits addresses image room store first counts t new) longer each),
+  after,
+  subst (λ t. AddHeld starts makes view waits w.held image room store first 1 t after) longer held,
+  subst (λ ks. AddEach starts makes view waits w image room store first ks after new) are each,
 )
-lines_of starts makes view waits addresses image room cores store first counts old mid new (Err fault) are longer measured each = each
+lines_of starts makes view waits w image room cores store first counts old mid after new (Err fault) are longer measured held each = each
 
 -- each number of cores passes, where these and all fewer do
 passes_if : (P : ℕ → Type 0) (count : ℕ) (b : Bool) → (b ≡ true → P count) → All P (count_if b count)

@@ -1,6 +1,6 @@
 -- What a loop gains, and what was written of it.
 -- Source: this project; Oplinger, Heine and Lam, "In Search of Speculative Thread-Level Parallelism", PACT 1999.
-use Rattle.std.specs.Prelude.{◌≡◌, ◌⊎◌, ℕ, List, [], ◌∷◌, Option, Some, None, MatchResult}
+use Rattle.std.specs.Prelude.{◌≡◌, ◌⊎◌, ℕ, Bool, true, false, List, [], ◌∷◌, Option, Some, None, MatchResult}
 use Rattle.std.specs.Io.KnownBytes.{Appends, Keeps}
 use Rattle.rv32_image.specs.Image.{LoadedImage}
 use Rattle.rv32_image.specs.ImageText.{image_text}
@@ -16,33 +16,46 @@ use Rattle.trace_commands.specs.Program.{Stream}
 use Rattle.trace_commands.specs.declared.store.Store.{Store}
 use Rattle.trace_commands.specs.declared.store.Store.TheVariants.{Caches, Plain}
 use Rattle.trace_commands.specs.Stores.{store_named}
+use Rattle.even_speed.specs.Held.{Holding, loads_at}
+use Rattle.all_schedules.specs.declared.holds.Pieces.{Pieces}
+use Rattle.all_schedules.specs.Holding.{WaitsInOrder, pieces_of}
 use Rattle.all_schedules.specs.Stores.{HasRefused, RunsOnAll, on_store}
 use Rattle.gain.specs.declared.gains.Study.{Study}
-use Rattle.gain.specs.Lines.{AddLines}
+use Rattle.gain.specs.Lines.{AddLines, Waiting}
+use Rattle.gain.specs.Text.{shows_held}
 use Rattle.gain.specs.Limits.{AddLimitsIf}
 
 -- ---- of an image
 
--- to a text, the lines of this store, where loads at these addresses wait
-abbrev pub AddLinesOf : List ℕ → LoadedImage → Store → ℕ → ℕ → List ℕ → List ℕ → List ℕ → Type 0
-AddLinesOf addresses image (Caches asked) cores room word old new = AddLines cache.Starts cache.Makes caches.store_view caches.waits addresses image room word cores old new
-AddLinesOf addresses image Plain cores room word old new = AddLines plain.Starts plain.Makes plain.store_view (λ _. never_waits) addresses image room word cores old new
+-- where loads at these addresses wait; and no lines `held`, or those where loads wait for what earlier epochs store in these pieces of memory
+abbrev pub AreWaiting : LoadedImage → List ℕ → Bool → Pieces → Waiting → Type 0
+AreWaiting image addresses true pieces w = (h : Holding) × WaitsInOrder image pieces h × (w ≡ record { holding = loads_at addresses; told = shows_held addresses; held = Some h })
+AreWaiting image addresses false pieces w = w ≡ record { holding = loads_at addresses; told = shows_held addresses; held = None }
+
+-- to a text, the lines of this store, where these loads wait
+abbrev pub AddWaiting : Waiting → LoadedImage → Store → ℕ → ℕ → List ℕ → List ℕ → List ℕ → Type 0
+AddWaiting w image (Caches asked) cores room word old new = AddLines cache.Starts cache.Makes caches.store_view caches.waits w image room word cores old new
+AddWaiting w image Plain cores room word old new = AddLines plain.Starts plain.Makes plain.store_view (λ _. never_waits) w image room word cores old new
+
+abbrev pub AddLinesOf : Bool → List ℕ → LoadedImage → Store → ℕ → ℕ → List ℕ → List ℕ → List ℕ → Type 0
+AddLinesOf held addresses image store cores room word old new =
+    (w : Waiting) × AreWaiting image addresses held (pieces_of store) w × AddWaiting w image store cores room word old new
 
 -- so of the loop on the machine that the store asks for
-abbrev pub AddStore : List ℕ → LoadedImage → ℕ → ℕ → List ℕ → Option Store → List ℕ → List ℕ → Type 0
-AddStore addresses image cores room word (Some store) old new = AddLinesOf addresses (on_store store image) store cores room word old new
-AddStore addresses image cores room word None old new = ⊥
+abbrev pub AddStore : Bool → List ℕ → LoadedImage → ℕ → ℕ → List ℕ → Option Store → List ℕ → List ℕ → Type 0
+AddStore held addresses image cores room word (Some store) old new = AddLinesOf held addresses (on_store store image) store cores room word old new
+AddStore held addresses image cores room word None old new = ⊥
 
 -- those of each store, one after another
-abbrev pub AddStores : List ℕ → LoadedImage → ℕ → ℕ → List (List ℕ) → List ℕ → List ℕ → Type 0
-AddStores addresses image cores room [] old new = new ≡ old
-AddStores addresses image cores room (word ∷ words) old new =
-    (mid : List ℕ) × AddStore addresses image cores room word (store_named word) old mid × AddStores addresses image cores room words mid new
+abbrev pub AddStores : Bool → List ℕ → LoadedImage → ℕ → ℕ → List (List ℕ) → List ℕ → List ℕ → Type 0
+AddStores held addresses image cores room [] old new = new ≡ old
+AddStores held addresses image cores room (word ∷ words) old new =
+    (mid : List ℕ) × AddStore held addresses image cores room word (store_named word) old mid × AddStores held addresses image cores room words mid new
 
 -- the lines of all stores, and below them those of the limits, where they are asked for
 pub record IsText (image : LoadedImage) (study : Study) (addresses : List ℕ) (stores : List (List ℕ)) (text : List ℕ) : Type 0 where
   pub lines : List ℕ
-  pub runs : AddStores addresses image study.cores study.room stores [] lines
+  pub runs : AddStores study.held addresses image study.cores study.room stores [] lines
   pub limits : AddLimitsIf study.limits image study.cores lines text
 
 -- they were written: each store's machine can run the image on so many cores

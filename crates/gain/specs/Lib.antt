@@ -8,3 +8,5 @@ pub mod Gains
 -- What the words of a command line ask for, and what the program answers them.
 pub mod Asked
 pub mod Work
+-- What the code keeps.
+pub mod KeptLines

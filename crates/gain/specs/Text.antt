@@ -57,7 +57,12 @@ abbrev pub told_text : Bool → Option Measured → Option Measured → List ℕ
 told_text held first (Some m) = run_text held first m
 told_text held first None = codes " full"
 
+-- the word that a line begins with: of a run where loads wait for what earlier epochs store, or of another
+abbrev pub name_text : Bool → List ℕ
+name_text true = codes "held "
+name_text false = codes "store "
+
 -- of a run over this store on so many cores, beside the one on one core
-unfoldable pub line_text : Bool → List ℕ → ℕ → Option Measured → Option Measured → List ℕ
-line_text held store cores first measured =
-    codes "store " ++ store ++ number (codes " cores ") cores ++ told_text held first measured ++ codes "\n"
+unfoldable pub line_text : Bool → Bool → List ℕ → ℕ → Option Measured → Option Measured → List ℕ
+line_text in_order held store cores first measured =
+    name_text in_order ++ store ++ number (codes " cores ") cores ++ told_text held first measured ++ codes "\n"

@@ -25,12 +25,15 @@ pub struct Study {
     pub cores: u32,
     /// How many entries the history of a run may have.
     pub room: u32,
+    /// Whether runs in which loads wait for what earlier epochs store are asked too.
+    pub held: bool,
     /// Whether what its dependences allow is asked too.
     pub limits: bool,
 }
 
 /// Runs the image that the reader gives at even speed on 1, 2, 4, 8 cores, as far as these are fewer than the cores, and on the cores,
-/// over each of these stores, where loads at these addresses of code wait, and writes a line for each run; below them a line of the limits for each number of cores, where they are
+/// over each of these stores, where loads at these addresses of code wait, and writes a line for each run, and one for
+/// that in which loads wait for what earlier epochs store, where those are asked for; below them a line of the limits for each number of cores, where they are
 /// asked for. The cores are at least 1, and the room is 16 to `homefree::MOST_ROOM` entries.
 ///
 /// The status is 0 where that was written; 2 where the image, a machine or the number of cores is refused; 3 where memory ran out or a
@@ -130,6 +133,7 @@ fn text_of<S: AsStr>(
         image,
         study.cores,
         study.room,
+        study.held,
         addresses,
         stores,
     )?;

@@ -3,16 +3,29 @@ ghost use Rattle.std.specs.Prelude.{◌≡◌, ◌≤◌, ◌++◌, All, IfOk, I
 ghost use Rattle.violations.specs.Rule.{IsCoreCount};
 ghost use Rattle.homefree.specs.Room.{most_room};
 ghost use Rattle.gain.specs.Measured.{HasFewSteps};
+ghost use Rattle.gain.specs.KeptLines.{waiting_of};
 ghost use Rattle.gain.specs.Lines as spec;
 
 use crate::measure::{Measured, measure};
-use crate::text::{push_line, shows_held};
+use crate::text::push_line;
+use even_speed::Holds;
 use rv32_exec::Image;
 use std::alloc::{AllocError, Global};
 use violations::EpochStore;
 
-/// Adds a line for each of 1, 2, 4 and 8 cores that are fewer than these, and one for these, where loads at these addresses of code wait. The cores are at least 1, and the room
-/// is 16 to `homefree::MOST_ROOM` entries.
+/// Which loads wait.
+#[derive(Drop)]
+pub struct Waiting {
+    /// In the runs of a store.
+    pub holds: Holds,
+    /// Whether it is told how long these are held.
+    pub told: bool,
+    /// In the runs of the lines `held`, where there are such.
+    pub held: Option<Holds>,
+}
+
+/// Adds a line for each of 1, 2, 4 and 8 cores that are fewer than these, and one for these, where these loads wait; and a line `held` below
+/// each, where there are such. The cores are at least 1, and the room is 16 to `homefree::MOST_ROOM` entries.
 ///
 /// `AllocError`: memory ran out.
 pub fn push_lines<S: EpochStore>(
@@ -22,15 +35,16 @@ pub fn push_lines<S: EpochStore>(
     image: &Image,
     cores: u32,
     room: u32,
-    addresses: &[u32],
+    waiting: &Waiting,
 ) -> Result<(), AllocError>
     requires cores { IsCoreCount image.now cores }
     requires least { 16 ≤ room }
     requires most { room ≤ most_room }
-    ensures { OnOk result (spec.AddLines S.starts S.makes S.view S.waits addresses.now image.now room store.now cores text.old.items text.new.items) }
+    ensures { OnOk result (spec.AddLines S.starts S.makes S.view S.waits (waiting_of waiting.now) image.now room store.now cores text.old.items text.new.items) }
 {
-    let first = measure::<S>(alloc, image, 1, room, addresses)?;
-    push_line(text, shows_held(addresses), store, 1, &first, &first)?;
+    let first = measure::<S>(alloc, image, 1, room, &waiting.holds)?;
+    push_line(text, false, waiting.told, store, 1, &first, &first)?;
+    push_held::<S>(alloc, text, store, image, room, waiting, &first, 1)?;
     let more = more_counts(alloc, cores)?;
     push_each::<S>(
         alloc,
@@ -38,20 +52,20 @@ pub fn push_lines<S: EpochStore>(
         store,
         image,
         room,
-        addresses,
+        waiting,
         &first,
         more.as_slice(),
     )
 }
 
-/// Adds a line for each of these numbers of cores, beside the run on one core.
+/// Adds the lines of each of these numbers of cores, beside the run on one core.
 fn push_each<S: EpochStore>(
     alloc: Global,
     text: &mut Vec<u8>,
     store: &[u8],
     image: &Image,
     room: u32,
-    addresses: &[u32],
+    waiting: &Waiting,
     first: &Option<Measured>,
     counts: &[u32],
 ) -> Result<(), AllocError>
@@ -59,13 +73,40 @@ fn push_each<S: EpochStore>(
     requires least { 16 ≤ room }
     requires most { room ≤ most_room }
     requires first { IfSome first.now HasFewSteps }
-    ensures { OnOk result (spec.AddEach S.starts S.makes S.view S.waits addresses.now image.now room store.now first.now counts.now text.old.items text.new.items) }
+    ensures { OnOk result (spec.AddEach S.starts S.makes S.view S.waits (waiting_of waiting.now) image.now room store.now first.now counts.now text.old.items text.new.items) }
 {
     for cores in counts {
-        let measured = measure::<S>(alloc, image, *cores, room, addresses)?;
-        push_line(text, shows_held(addresses), store, *cores, first, &measured)?;
+        let measured = measure::<S>(alloc, image, *cores, room, &waiting.holds)?;
+        push_line(text, false, waiting.told, store, *cores, first, &measured)?;
+        push_held::<S>(alloc, text, store, image, room, waiting, first, *cores)?;
     }
     Ok(())
+}
+
+/// Adds the line `held` of so many cores, where there are such.
+fn push_held<S: EpochStore>(
+    alloc: Global,
+    text: &mut Vec<u8>,
+    store: &[u8],
+    image: &Image,
+    room: u32,
+    waiting: &Waiting,
+    first: &Option<Measured>,
+    cores: u32,
+) -> Result<(), AllocError>
+    requires cores { IsCoreCount image.now cores }
+    requires least { 16 ≤ room }
+    requires most { room ≤ most_room }
+    requires first { IfSome first.now HasFewSteps }
+    ensures { OnOk result (spec.AddHeld S.starts S.makes S.view S.waits (waiting_of waiting.now).held image.now room store.now first.now cores text.old.items text.new.items) }
+{
+    match &waiting.held {
+        Some(holds) => {
+            let measured = measure::<S>(alloc, image, cores, room, holds)?;
+            push_line(text, true, true, store, cores, first, &measured)
+        }
+        None => Ok(()),
+    }
 }
 
 /// The numbers of cores below the first line.

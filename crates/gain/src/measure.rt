@@ -2,12 +2,13 @@
 ghost use Rattle.std.specs.Prelude.{◌≤◌, IfOk, IfSome};
 ghost use Rattle.violations.specs.Rule.{IsCoreCount};
 ghost use Rattle.homefree.specs.Room.{most_room};
+ghost use Rattle.even_speed.specs.Holds.{holding_of};
 ghost use Rattle.all_schedules.specs.Made.{loop_on};
 ghost use Rattle.gain.specs.Measured as spec;
 
 use crate::kinds::{Kinds, kinds_of};
 use all_schedules::{EvenRun, run_evenly};
-use even_speed::Ran;
+use even_speed::{Holds, Ran};
 use homefree::TurnFault;
 use rv32_exec::Image;
 use std::alloc::{AllocError, Global};
@@ -24,7 +25,7 @@ pub struct Measured {
     pub kinds: Kinds,
 }
 
-/// Runs the loop at even speed, where loads at these addresses of code wait, over a fresh store, and answers what is told of the run. None: its history was full before the loop
+/// Runs the loop at even speed, where these loads wait, over a fresh store, and answers what is told of the run. None: its history was full before the loop
 /// was over. The cores are at least 1, and the room is 16 to `homefree::MOST_ROOM` entries.
 ///
 /// `AllocError`: memory ran out.
@@ -33,15 +34,15 @@ pub fn measure<S: EpochStore>(
     image: &Image,
     cores: u32,
     room: u32,
-    addresses: &[u32],
+    holds: &Holds,
 ) -> Result<Option<Measured>, AllocError>
     requires cores { IsCoreCount image.now cores }
     requires least { 16 ≤ room }
     requires most { room ≤ most_room }
-    ensures is { IfOk result (spec.IsMeasured S.starts S.makes S.view S.waits addresses.now (loop_on image.now cores room)) }
+    ensures is { IfOk result (spec.IsMeasured S.starts S.makes S.view S.waits (holding_of holds.now) (loop_on image.now cores room)) }
     ensures few { IfOk result (λ told. IfSome told spec.HasFewSteps) }
 {
-    let run: EvenRun<S> = match run_evenly(alloc, image, cores, room, addresses) {
+    let run: EvenRun<S> = match run_evenly(alloc, image, cores, room, holds) {
         Ok(run) => run,
         Err(TurnFault::HistoryFull) => return Ok(None),
         Err(TurnFault::NoMemory) => return Err(AllocError),

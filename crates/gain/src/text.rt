@@ -9,10 +9,12 @@ use even_speed::Account;
 use itoa::Buffer;
 use std::alloc::AllocError;
 
-/// Adds the line of a run on so many cores over the store of this name, beside the run on one core, with how long cores were held or without.
+/// Adds the line of a run on so many cores over the store of this name, beside the run on one core: one where loads wait for what earlier epochs
+/// store, or another; with how long cores were held or without.
 #[tactic(auto, unfolding(crate::specs::Text::line_text))]
 pub fn push_line(
     text: &mut Vec<u8>,
+    in_order: bool,
     held: bool,
     store: &[u8],
     cores: u32,
@@ -21,13 +23,23 @@ pub fn push_line(
 ) -> Result<(), AllocError>
     requires first { IfSome first.now HasFewSteps }
     requires measured { IfSome measured.now HasFewSteps }
-    ensures { OnOk result (text.new.items ≡ text.old.items ++ spec.line_text held store.now cores first.now measured.now) }
+    ensures { OnOk result (text.new.items ≡ text.old.items ++ spec.line_text in_order held store.now cores first.now measured.now) }
 {
-    text.extend_from_slice(b"store ")?;
+    push_name(text, in_order)?;
     text.extend_from_slice(store)?;
     push_number(text, b" cores ", cores as u64)?;
     push_told(text, held, first, measured)?;
     text.extend_from_slice(b"\n")
+}
+
+fn push_name(text: &mut Vec<u8>, in_order: bool) -> Result<(), AllocError>
+    ensures { OnOk result (text.new.items ≡ text.old.items ++ spec.name_text in_order) }
+{
+    if in_order {
+        text.extend_from_slice(b"held ")
+    } else {
+        text.extend_from_slice(b"store ")
+    }
 }
 
 fn push_told(

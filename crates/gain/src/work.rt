@@ -6,7 +6,7 @@ ghost use Rattle.rv32_image.specs.Reading.{ForText};
 ghost use Rattle.homefree.specs.Room.{most_room};
 ghost use Rattle.trace_commands.specs.Stores.{names_store, or_both};
 ghost use Rattle.all_schedules.specs.Addresses.{addresses_of};
-ghost use Rattle.gain.specs.Asked.{asked_before_limits, asks_limits, gain_asked_in, without_limits};
+ghost use Rattle.gain.specs.Asked.{asked_before_limits, asks_held, asks_limits, gain_asked_in, without_held, without_limits};
 ghost use Rattle.gain.specs.Gains.{GainAnswers};
 ghost use Rattle.gain.specs.Work as spec;
 
@@ -18,8 +18,8 @@ use std::io::{Read, Write};
 use trace_commands::{CommandStop, Outcome, first_word, stores_asked};
 
 /// The whole program: what the loop gains on as many cores as the words ask for, 1 to 16, over each of the stores that they name,
-/// `gain CORES STORE ..`; over caches and the plain store, where they name none. Behind these, with `--wait PC ..`, the loads at these addresses of
-/// code wait. Where the last word is `--limits`, also what its dependences allow. The first word is the program's name.
+/// `gain CORES STORE ..`; over caches and the plain store, where they name none. Behind these, with `--held`, also of held runs, and with
+/// `--wait PC ..` where the loads at these addresses of code wait. Where the last word is `--limits`, also what its dependences allow. The first word is the program's name.
 ///
 /// Any other words are refused as `usage`, with status 2, and nothing is read or written. The room is 16 to `homefree::MOST_ROOM`
 /// entries.
@@ -50,35 +50,38 @@ pub fn work<S: AsStr, R: Read, W: Write, E: Write>(
 #[tactic(auto, unfolding(crate::specs::Asked::gain_asked_in))]
 fn study_asked<S: AsStr>(words: &[S], room: u32) -> Option<(Study, &[S], &[S])>
     ensures asked { IfSome result (λ found. gain_asked_in (map S.text words.now)
-        ≡ Some (record { cores = found.0.cores; stores = or_both (map S.text found.2.now); addresses = addresses_of (map S.text found.1.now); limits = found.0.limits })) }
+        ≡ Some (record { cores = found.0.cores; stores = or_both (map S.text found.2.now); held = found.0.held; addresses = addresses_of (map S.text found.1.now); limits = found.0.limits })) }
     ensures cores { IfSome result (λ found. 1 ≤ found.0.cores) }
     ensures room { IfSome result (λ found. found.0.room ≡ room) }
     ensures stores { IfSome result (λ found. list_all names_store (map S.text found.2.now) ≡ true) }
     ensures none { IfNone result (gain_asked_in (map S.text words.now) ≡ None) }
 {
     let (limits, words) = cut_limits(words);
-    let (cores, waits, stores) = waits_asked(words)?;
+    let (cores, held, waits, stores) = waits_asked(words)?;
     let study = Study {
         cores,
         room,
+        held,
         limits,
     };
     Some((study, waits, stores))
 }
 
-/// How many cores the words ask for, and the words of addresses and of stores among them, `--limits` aside. None: they ask for nothing.
+/// How many cores the words ask for, whether held runs, and the words of addresses and of stores among them, `--limits` aside. None: they ask for
+/// nothing.
 #[tactic(auto, using(crate::proofs::Waiting::are_asked, crate::proofs::Waiting::no_waits, crate::proofs::Waiting::no_stores))]
-fn waits_asked<S: AsStr>(words: &[S]) -> Option<(u32, &[S], &[S])>
+fn waits_asked<S: AsStr>(words: &[S]) -> Option<(u32, bool, &[S], &[S])>
     ensures asked { IfSome result (λ found. (limits : Bool) → asked_before_limits limits (map S.text words.now)
-        ≡ Some (record { cores = found.0; stores = or_both (map S.text found.2.now); addresses = addresses_of (map S.text found.1.now); limits = limits })) }
+        ≡ Some (record { cores = found.0; stores = or_both (map S.text found.3.now); held = found.1; addresses = addresses_of (map S.text found.2.now); limits = limits })) }
     ensures cores { IfSome result (λ found. 1 ≤ found.0) }
-    ensures stores { IfSome result (λ found. list_all names_store (map S.text found.2.now) ≡ true) }
+    ensures stores { IfSome result (λ found. list_all names_store (map S.text found.3.now) ≡ true) }
     ensures none { IfNone result ((limits : Bool) → asked_before_limits limits (map S.text words.now) ≡ None) }
 {
     let (before, behind) = words.split_at(wait_place(words));
     let waits = wait_words(behind)?;
-    let (cores, stores) = stores_asked(before)?;
-    Some((cores, waits, stores))
+    let (held, rest) = cut_held(before);
+    let (cores, stores) = stores_asked(rest)?;
+    Some((cores, held, waits, stores))
 }
 
 /// Whether the last word is `--limits`, and the words without it.
@@ -90,6 +93,21 @@ fn cut_limits<S: AsStr>(words: &[S]) -> (bool, &[S])
         return (false, words);
     };
     if last.as_str() == "--limits" {
+        (true, before)
+    } else {
+        (false, words)
+    }
+}
+
+/// Whether the last word is `--held`, and the words without it.
+fn cut_held<S: AsStr>(words: &[S]) -> (bool, &[S])
+    ensures held { result.0 ≡ asks_held (map S.text words.now) }
+    ensures words { map S.text result.1.now ≡ without_held (map S.text words.now) }
+{
+    let Some((last, before)) = words.split_last() else {
+        return (false, words);
+    };
+    if last.as_str() == "--held" {
         (true, before)
     } else {
         (false, words)

@@ -1,31 +1,16 @@
-use Rattle.std.proofs.Common.{◌≡◌, ◌++◌, List, ℕ, ap, subst, ◌∙◌, rules}
-use Rattle.homefree.specs.declared.book.Loop.{Loop}
-use Rattle.homefree.specs.declared.fault.TurnFault.{TurnFault}
-use Rattle.homefree.specs.declared.fault.TurnFault.TheVariants as fault
+use Rattle.std.proofs.lemmas.Result.{MatchResult-weaker}
+use Rattle.even_speed.specs.Holds.{holding_of}
 use Rattle.all_schedules.specs.Made.{loop_on}
-use Rattle.all_schedules.specs.Evenly.{IsEvenFault}
-use Rattle.all_schedules.specs.SurveyText.{turns_line}
+use Rattle.all_schedules.proofs.Paces.{even_stop, even_text}
 use Rattle.all_schedules.proofs.paced.show_even.Goals as goal
 
-pub print_turns-requires-clause-image : goal.print_turns-requires-clause-image
-print_turns-requires-clause-image g c κs within = ap (λ (l : Loop). l.image) c.in-Ok.ensures.made.loop
-
-pub print_turns-requires-clause-cores : goal.print_turns-requires-clause-cores
-print_turns-requires-clause-cores g c κs within = ap (λ (l : Loop). l.cores) c.in-Ok.ensures.made.loop
-
-pub returns-in-Ok-print_turns : goal.returns-in-Ok-print_turns
-returns-in-Ok-print_turns g c =
-    let made = c.in-Ok.ensures.made in
-    let shown = c.in-Ok-print_turns.ensures in record {
-      schedule = c.in-Ok.made.schedule.items;
-      history = c.in-Ok.made.book.history;
-      makes = (c.in-Ok.made.ran, made.makes);
-      below = shown.0;
-      shown = shown.1;
-      text_is = shown.2 ∙ ap (λ (s : List ℕ). turns_line s ++ shown.0) c.as_slice.ensures.value;
-    }
-
-pub returns-in-Err-HistoryFull : goal.returns-in-Err-HistoryFull
-returns-in-Err-HistoryFull g c =
-    let is : c.in-Err-HistoryFull.field-0 ≡ fault.HistoryFull = search rules in
-    subst (λ (f : TurnFault). IsEvenFault g.S.EpochStore.starts g.S.EpochStore.makes g.S.EpochStore.view g.S.EpochStore.waits c.args.addresses.now (loop_on c.args.image.now c.args.cores c.args.room) f) is c.in-Err-HistoryFull.ensures.fault
+pub returns : goal.returns
+returns g c =
+    let starts = g.S.EpochStore.starts in
+    let makes = g.S.EpochStore.makes in
+    let view = g.S.EpochStore.view in
+    let waits = g.S.EpochStore.waits in
+    let l = loop_on c.args.image.now c.args.cores c.args.room in
+    MatchResult-weaker c.show_holding.result c.show_holding.ensures
+    (λ shown is. even_text starts makes view waits c.args.addresses.now l (holding_of c.in-Ok.holds) shown.0 shown.1.items c.in-Ok.ensures is)
+    (λ cause is. even_stop starts makes view waits c.args.addresses.now l (holding_of c.in-Ok.holds) cause c.in-Ok.ensures is)

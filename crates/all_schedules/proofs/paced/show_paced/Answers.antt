@@ -14,6 +14,16 @@ returns-in-Even g c =
     subst (λ (pace : Pace). MatchResult c.show_even.result (λ shown. IsPacedText starts makes view waits c.args.addresses.now pace l shown.0 shown.1.items) (IsPacedStop starts makes view waits c.args.addresses.now pace l))
     (sym c.in-Even.is) c.show_even.ensures
 
+pub returns-in-Held : goal.returns-in-Held
+returns-in-Held g c =
+    let starts = g.S.EpochStore.starts in
+    let makes = g.S.EpochStore.makes in
+    let view = g.S.EpochStore.view in
+    let waits = g.S.EpochStore.waits in
+    let l = loop_on c.args.image.now c.args.cores c.args.room in
+    subst (λ (pace : Pace). MatchResult c.show_held.result (λ shown. IsPacedText starts makes view waits c.args.addresses.now pace l shown.0 shown.1.items) (IsPacedStop starts makes view waits c.args.addresses.now pace l))
+    (sym c.in-Held.is) (c.show_held.ensures c.args.addresses.now)
+
 pub returns-in-Seeded : goal.returns-in-Seeded
 returns-in-Seeded g c =
     let starts = g.S.EpochStore.starts in

@@ -18,13 +18,16 @@ use Rattle.even_speed.specs.declared.clock.Clock.{Clock}
 use Rattle.even_speed.specs.declared.clocks.Turn.{Turn}
 use Rattle.even_speed.specs.Account.{WastesNone}
 use Rattle.even_speed.specs.Clocks.{IsFirst, account_of, answered, clock_at, due_of, dues}
-use Rattle.even_speed.specs.Held.{held_in, loads_at}
+use Rattle.even_speed.specs.Held.{held_in}
+use Rattle.even_speed.specs.Holds.{holding_of}
 use Rattle.even_speed.specs.Even.{Pace, at_first, clocks_after, executed_by, restarts}
 use Rattle.even_speed.specs.InOrder.{steps_in_order}
 use Rattle.even_speed.specs.Timed.{IsNeverIdle, Leads}
 use Rattle.even_speed.specs.Kept.{AreSound, IsAloneClock, IsNext, IsSound, NeverWaits, is_held_in}
 use Rattle.even_speed.proofs.Alone.{no_restarts_in, the_first}
 use Rattle.even_speed.specs.Seats.{seat_at}
+use Rattle.even_speed.specs.Owns.{own_at}
+use Rattle.even_speed.proofs.Owning.{first_owned, owns_before}
 use Rattle.even_speed.proofs.Seated.{first_seats, seats_before}
 use Rattle.even_speed.proofs.Lasting.{first_lasts, halted, lasts_on, late_lasts, never_spent, never_undue}
 use Rattle.even_speed.proofs.OneCore.{first_alone, late_alone, over_none, turn_alone}
@@ -90,10 +93,12 @@ loop-taken-init g c = record {
   shares = c.requires.shares;
   sound = all_first c.args.book.now.cores c.in-Ok.clocks.items (c.in-Ok.ensures.count ∙ sym c.requires.book.1)
       (omega (arith, c.look.ensures.core_count.most, most_few c.args.book.now.image.version)) c.in-Ok.ensures.first;
-  drives = at_start g.S.EpochStore.makes g.S.EpochStore.view g.S.EpochStore.waits (loads_at c.args.holds.now)
+  drives = at_start g.S.EpochStore.makes g.S.EpochStore.view g.S.EpochStore.waits (holding_of c.args.holds.now)
       (record { held = harts_of (None ∷ None ∷ None ∷ None ∷ None ∷ None ∷ None ∷ None ∷ None ∷ None ∷ None ∷ None ∷ None ∷ None ∷ None ∷ None ∷ []); clocks = clock_at c.in-Ok.clocks.items; now = 0 })
       (driver c.args.book.now c.args.shares.now) c.args.schedule.now.items (λ k. ap (λ f. f k) (no_harts 16)) c.in-Ok.ensures.first refl c.requires.schedule;
   seats = c.note_from.ensures;
+  count = c.keep_from.ensures.cores ∙ (c.in-Ok-first_owns.ensures.count ∙ sym c.requires.book.1);
+  owns = c.in-Ok-keep_from.ensures.owns;
   timed = λ none. (
     c.look.ensures.state,
     c.look.ensures.replays,
@@ -110,30 +115,30 @@ loop-taken-init g c = record {
 
 pub returns-in_default-next_turn-clause-evenly : goal.returns-in_default-next_turn-clause-evenly
 returns-in_default-next_turn-clause-evenly g c =
-    (no_more g.S.EpochStore.makes g.S.EpochStore.view g.S.EpochStore.waits (loads_at c.args.holds.now) at_first (record { held = harts_of c.loop-taken.held; clocks = clock_at c.loop-taken.clocks.items; now = c.loop-taken.now })
+    (no_more g.S.EpochStore.makes g.S.EpochStore.view g.S.EpochStore.waits (holding_of c.args.holds.now) at_first (record { held = harts_of c.loop-taken.held; clocks = clock_at c.loop-taken.clocks.items; now = c.loop-taken.now })
     (driver c.args.book.now c.args.shares.now) (driver c.loop-taken.book c.loop-taken.shares) c.loop-taken.schedule.items c.loop-taken.invariant.drives)
 
 pub returns-in_default-next_turn-clause-driven : goal.returns-in_default-next_turn-clause-driven
 returns-in_default-next_turn-clause-driven g c =
-    is_driven g.S.EpochStore.makes g.S.EpochStore.view g.S.EpochStore.waits (loads_at c.args.holds.now) at_first (driver c.args.book.now c.args.shares.now) (driver c.loop-taken.book c.loop-taken.shares) c.loop-taken.schedule.items (Ok None)
-    (no_more g.S.EpochStore.makes g.S.EpochStore.view g.S.EpochStore.waits (loads_at c.args.holds.now) at_first (record { held = harts_of c.loop-taken.held; clocks = clock_at c.loop-taken.clocks.items; now = c.loop-taken.now })
+    is_driven g.S.EpochStore.makes g.S.EpochStore.view g.S.EpochStore.waits (holding_of c.args.holds.now) at_first (driver c.args.book.now c.args.shares.now) (driver c.loop-taken.book c.loop-taken.shares) c.loop-taken.schedule.items (Ok None)
+    (no_more g.S.EpochStore.makes g.S.EpochStore.view g.S.EpochStore.waits (holding_of c.args.holds.now) at_first (record { held = harts_of c.loop-taken.held; clocks = clock_at c.loop-taken.clocks.items; now = c.loop-taken.now })
     (driver c.args.book.now c.args.shares.now) (driver c.loop-taken.book c.loop-taken.shares) c.loop-taken.schedule.items c.loop-taken.invariant.drives)
 
 pub returns-in_err-answer-clause-evenly : goal.returns-in_err-answer-clause-evenly
 returns-in_err-answer-clause-evenly g c =
     let p = err_from_is_err_and c.from_residual.result c.from_residual.ensures.1 in
-    rw (p.1, p.2) (ends_fault g.S.EpochStore.makes g.S.EpochStore.view g.S.EpochStore.waits (loads_at c.args.holds.now) at_first (record { held = harts_of c.loop-taken.held; clocks = clock_at c.loop-taken.clocks.items; now = c.loop-taken.now }) (driver c.args.book.now c.args.shares.now)
+    rw (p.1, p.2) (ends_fault g.S.EpochStore.makes g.S.EpochStore.view g.S.EpochStore.waits (holding_of c.args.holds.now) at_first (record { held = harts_of c.loop-taken.held; clocks = clock_at c.loop-taken.clocks.items; now = c.loop-taken.now }) (driver c.args.book.now c.args.shares.now)
     (driver c.loop-taken.book c.loop-taken.shares) (driver c.step.new.book c.step.new.shares) c.loop-taken.schedule.items c.push.new.self.items c.in-Some.turn c.loop-taken.invariant.drives
-    (first_of c.loop-taken.clocks.items c.loop-taken.book.cores c.loop-taken.now (is_held_in c.held_cores-waiting.result) (held_in (loads_at c.args.holds.now) c.loop-taken.book (harts_of c.loop-taken.held)) c.in-Some.turn c.loop-taken.invariant.sound.count (same_held c.args.cores (length c.loop-taken.clocks.items) (is_held_in c.held_cores-waiting.result) (held_in (loads_at c.args.holds.now) c.loop-taken.book (harts_of c.loop-taken.held)) (c.loop-taken.invariant.sound.count ∙ (c.loop-taken.invariant.same.cores ∙ c.requires.book.1)) c.held_cores-waiting.ensures) c.in-Some.ensures) c.in-Ok-push.ensures.items
+    (first_of c.loop-taken.clocks.items c.loop-taken.book.cores c.loop-taken.now (is_held_in c.held_cores-waiting.result) (held_in (holding_of c.args.holds.now) c.loop-taken.book (harts_of c.loop-taken.held)) c.in-Some.turn c.loop-taken.invariant.sound.count (same_held c.args.cores (length c.loop-taken.clocks.items) (is_held_in c.held_cores-waiting.result) (held_in (holding_of c.args.holds.now) c.loop-taken.book (harts_of c.loop-taken.held)) (c.loop-taken.invariant.sound.count ∙ (c.loop-taken.invariant.same.cores ∙ c.requires.book.1)) c.held_cores-waiting.ensures) c.in-Some.ensures) c.in-Ok-push.ensures.items
     c.in_err-answer.field-0.0 c.in_err-answer.ensures.turned)
 
 pub returns-in_err-answer-clause-driven : goal.returns-in_err-answer-clause-driven
 returns-in_err-answer-clause-driven g c =
     let p = err_from_is_err_and c.from_residual.result c.from_residual.ensures.1 in
-    rw (p.1, p.2) (unless_driven g.S.EpochStore.makes g.S.EpochStore.view g.S.EpochStore.waits (loads_at c.args.holds.now) at_first (driver c.args.book.now c.args.shares.now) (driver c.step.new.book c.step.new.shares) c.push.new.self.items (Err c.in_err-answer.field-0.0)
-    (ends_fault g.S.EpochStore.makes g.S.EpochStore.view g.S.EpochStore.waits (loads_at c.args.holds.now) at_first (record { held = harts_of c.loop-taken.held; clocks = clock_at c.loop-taken.clocks.items; now = c.loop-taken.now }) (driver c.args.book.now c.args.shares.now)
+    rw (p.1, p.2) (unless_driven g.S.EpochStore.makes g.S.EpochStore.view g.S.EpochStore.waits (holding_of c.args.holds.now) at_first (driver c.args.book.now c.args.shares.now) (driver c.step.new.book c.step.new.shares) c.push.new.self.items (Err c.in_err-answer.field-0.0)
+    (ends_fault g.S.EpochStore.makes g.S.EpochStore.view g.S.EpochStore.waits (holding_of c.args.holds.now) at_first (record { held = harts_of c.loop-taken.held; clocks = clock_at c.loop-taken.clocks.items; now = c.loop-taken.now }) (driver c.args.book.now c.args.shares.now)
     (driver c.loop-taken.book c.loop-taken.shares) (driver c.step.new.book c.step.new.shares) c.loop-taken.schedule.items c.push.new.self.items c.in-Some.turn c.loop-taken.invariant.drives
-    (first_of c.loop-taken.clocks.items c.loop-taken.book.cores c.loop-taken.now (is_held_in c.held_cores-waiting.result) (held_in (loads_at c.args.holds.now) c.loop-taken.book (harts_of c.loop-taken.held)) c.in-Some.turn c.loop-taken.invariant.sound.count (same_held c.args.cores (length c.loop-taken.clocks.items) (is_held_in c.held_cores-waiting.result) (held_in (loads_at c.args.holds.now) c.loop-taken.book (harts_of c.loop-taken.held)) (c.loop-taken.invariant.sound.count ∙ (c.loop-taken.invariant.same.cores ∙ c.requires.book.1)) c.held_cores-waiting.ensures) c.in-Some.ensures) c.in-Ok-push.ensures.items
+    (first_of c.loop-taken.clocks.items c.loop-taken.book.cores c.loop-taken.now (is_held_in c.held_cores-waiting.result) (held_in (holding_of c.args.holds.now) c.loop-taken.book (harts_of c.loop-taken.held)) c.in-Some.turn c.loop-taken.invariant.sound.count (same_held c.args.cores (length c.loop-taken.clocks.items) (is_held_in c.held_cores-waiting.result) (held_in (holding_of c.args.holds.now) c.loop-taken.book (harts_of c.loop-taken.held)) (c.loop-taken.invariant.sound.count ∙ (c.loop-taken.invariant.same.cores ∙ c.requires.book.1)) c.held_cores-waiting.ensures) c.in-Some.ensures) c.in-Ok-push.ensures.items
     c.in_err-answer.field-0.0 c.in_err-answer.ensures.turned))
 
 pub note_from-requires-clause-seats : goal.note_from-requires-clause-seats
@@ -144,16 +149,28 @@ note_from-requires-in-loop-taken-clause-seats g c κs within =
     seats_before (seat_at c.loop-taken.seats) c.loop-taken.book.history c.step.ensures.grows.entries c.step.new.book.history c.len-place.result c.step.ensures.grows.history c.len-place.ensures
     c.loop-taken.invariant.seats
 
+pub keep_from-requires-clause-owns : goal.keep_from-requires-clause-owns
+keep_from-requires-clause-owns g c κs within some = first_owned (own_at c.in-Ok-first_owns.owns.items) c.args.book.now.history c.in-Ok-first_owns.ensures.none
+
+pub keep_from-requires-in-loop-taken-clause-owns : goal.keep_from-requires-in-loop-taken-clause-owns
+keep_from-requires-in-loop-taken-clause-owns g c κs within some =
+    owns_before (own_at c.loop-taken.owns.items) c.loop-taken.book.history c.step.ensures.grows.entries c.step.new.book.history c.len-place.result c.step.ensures.grows.history c.len-place.ensures
+    (c.loop-taken.invariant.owns some)
+
 pub be_late-requires-clause-may : goal.be_late-requires-clause-may
-be_late-requires-clause-may g c = may_be_late c.loop-taken._taken c.loop-taken.book.cores c.loop-taken.now c.loop-taken.clocks.items c.loop-taken.invariant.sound (held_in (loads_at c.args.holds.now) c.loop-taken.book (harts_of c.loop-taken.held)) c.in-Some.turn (first_of c.loop-taken.clocks.items c.loop-taken.book.cores c.loop-taken.now (is_held_in c.held_cores-waiting.result) (held_in (loads_at c.args.holds.now) c.loop-taken.book (harts_of c.loop-taken.held)) c.in-Some.turn c.loop-taken.invariant.sound.count (same_held c.args.cores (length c.loop-taken.clocks.items) (is_held_in c.held_cores-waiting.result) (held_in (loads_at c.args.holds.now) c.loop-taken.book (harts_of c.loop-taken.held)) (c.loop-taken.invariant.sound.count ∙ (c.loop-taken.invariant.same.cores ∙ c.requires.book.1)) c.held_cores-waiting.ensures) c.in-Some.ensures)
+be_late-requires-clause-may g c = may_be_late c.loop-taken._taken c.loop-taken.book.cores c.loop-taken.now c.loop-taken.clocks.items c.loop-taken.invariant.sound (held_in (holding_of c.args.holds.now) c.loop-taken.book (harts_of c.loop-taken.held)) c.in-Some.turn (first_of c.loop-taken.clocks.items c.loop-taken.book.cores c.loop-taken.now (is_held_in c.held_cores-waiting.result) (held_in (holding_of c.args.holds.now) c.loop-taken.book (harts_of c.loop-taken.held)) c.in-Some.turn c.loop-taken.invariant.sound.count (same_held c.args.cores (length c.loop-taken.clocks.items) (is_held_in c.held_cores-waiting.result) (held_in (holding_of c.args.holds.now) c.loop-taken.book (harts_of c.loop-taken.held)) (c.loop-taken.invariant.sound.count ∙ (c.loop-taken.invariant.same.cores ∙ c.requires.book.1)) c.held_cores-waiting.ensures) c.in-Some.ensures)
 
 pub be_late-requires-clause-due : goal.be_late-requires-clause-due
-be_late-requires-clause-due g c = due_before c.loop-taken._taken c.loop-taken.book.cores c.loop-taken.now c.loop-taken.clocks.items c.loop-taken.invariant.sound (held_in (loads_at c.args.holds.now) c.loop-taken.book (harts_of c.loop-taken.held)) c.in-Some.turn (first_of c.loop-taken.clocks.items c.loop-taken.book.cores c.loop-taken.now (is_held_in c.held_cores-waiting.result) (held_in (loads_at c.args.holds.now) c.loop-taken.book (harts_of c.loop-taken.held)) c.in-Some.turn c.loop-taken.invariant.sound.count (same_held c.args.cores (length c.loop-taken.clocks.items) (is_held_in c.held_cores-waiting.result) (held_in (loads_at c.args.holds.now) c.loop-taken.book (harts_of c.loop-taken.held)) (c.loop-taken.invariant.sound.count ∙ (c.loop-taken.invariant.same.cores ∙ c.requires.book.1)) c.held_cores-waiting.ensures) c.in-Some.ensures)
+be_late-requires-clause-due g c = due_before c.loop-taken._taken c.loop-taken.book.cores c.loop-taken.now c.loop-taken.clocks.items c.loop-taken.invariant.sound (held_in (holding_of c.args.holds.now) c.loop-taken.book (harts_of c.loop-taken.held)) c.in-Some.turn (first_of c.loop-taken.clocks.items c.loop-taken.book.cores c.loop-taken.now (is_held_in c.held_cores-waiting.result) (held_in (holding_of c.args.holds.now) c.loop-taken.book (harts_of c.loop-taken.held)) c.in-Some.turn c.loop-taken.invariant.sound.count (same_held c.args.cores (length c.loop-taken.clocks.items) (is_held_in c.held_cores-waiting.result) (held_in (holding_of c.args.holds.now) c.loop-taken.book (harts_of c.loop-taken.held)) (c.loop-taken.invariant.sound.count ∙ (c.loop-taken.invariant.same.cores ∙ c.requires.book.1)) c.held_cores-waiting.ensures) c.in-Some.ensures)
+
+pub account_of-account-requires-clause-end : goal.account_of-account-requires-clause-end
+account_of-account-requires-clause-end g c =
+    omega (arith, begins_by c.loop-taken._taken c.loop-taken.book.cores c.loop-taken.now c.loop-taken.clocks.items c.loop-taken.invariant.sound (held_in (holding_of c.args.holds.now) c.loop-taken.book (harts_of c.loop-taken.held)) c.in-Some.turn (first_of c.loop-taken.clocks.items c.loop-taken.book.cores c.loop-taken.now (is_held_in c.held_cores-waiting.result) (held_in (holding_of c.args.holds.now) c.loop-taken.book (harts_of c.loop-taken.held)) c.in-Some.turn c.loop-taken.invariant.sound.count (same_held c.args.cores (length c.loop-taken.clocks.items) (is_held_in c.held_cores-waiting.result) (held_in (holding_of c.args.holds.now) c.loop-taken.book (harts_of c.loop-taken.held)) (c.loop-taken.invariant.sound.count ∙ (c.loop-taken.invariant.same.cores ∙ c.requires.book.1)) c.held_cores-waiting.ensures) c.in-Some.ensures), c.loop-taken-test.true)
 
 pub account_of-account-requires-clause-sound : goal.account_of-account-requires-clause-sound
 account_of-account-requires-clause-sound g c =
-    turned_end c.loop-taken._taken c.loop-taken.book.cores c.be_late.new.clocks.items c.in-Some.turn (lates_sound c.loop-taken._taken c.loop-taken.book.cores c.loop-taken.now c.loop-taken.clocks.items c.loop-taken.invariant.sound (held_in (loads_at c.args.holds.now) c.loop-taken.book (harts_of c.loop-taken.held)) c.in-Some.turn (first_of c.loop-taken.clocks.items c.loop-taken.book.cores c.loop-taken.now (is_held_in c.held_cores-waiting.result) (held_in (loads_at c.args.holds.now) c.loop-taken.book (harts_of c.loop-taken.held)) c.in-Some.turn c.loop-taken.invariant.sound.count (same_held c.args.cores (length c.loop-taken.clocks.items) (is_held_in c.held_cores-waiting.result) (held_in (loads_at c.args.holds.now) c.loop-taken.book (harts_of c.loop-taken.held)) (c.loop-taken.invariant.sound.count ∙ (c.loop-taken.invariant.same.cores ∙ c.requires.book.1)) c.held_cores-waiting.ensures) c.in-Some.ensures) c.be_late.new.clocks.items c.be_late.ensures.len c.be_late.ensures.each)
-    (late_turn c.loop-taken.now (dues (held_in (loads_at c.args.holds.now) c.loop-taken.book (harts_of c.loop-taken.held)) (clock_at c.loop-taken.clocks.items)) (clock_at c.loop-taken.clocks.items) (clock_at c.be_late.new.clocks.items) c.loop-taken.book.cores c.in-Some.turn (first_of c.loop-taken.clocks.items c.loop-taken.book.cores c.loop-taken.now (is_held_in c.held_cores-waiting.result) (held_in (loads_at c.args.holds.now) c.loop-taken.book (harts_of c.loop-taken.held)) c.in-Some.turn c.loop-taken.invariant.sound.count (same_held c.args.cores (length c.loop-taken.clocks.items) (is_held_in c.held_cores-waiting.result) (held_in (loads_at c.args.holds.now) c.loop-taken.book (harts_of c.loop-taken.held)) (c.loop-taken.invariant.sound.count ∙ (c.loop-taken.invariant.same.cores ∙ c.requires.book.1)) c.held_cores-waiting.ensures) c.in-Some.ensures) c.be_late.ensures.each) (not (c.totals.result.restarts == c.totals-restarts.result.restarts))
+    turned_end c.loop-taken._taken c.loop-taken.book.cores c.be_late.new.clocks.items c.in-Some.turn (lates_sound c.loop-taken._taken c.loop-taken.book.cores c.loop-taken.now c.loop-taken.clocks.items c.loop-taken.invariant.sound (held_in (holding_of c.args.holds.now) c.loop-taken.book (harts_of c.loop-taken.held)) c.in-Some.turn (first_of c.loop-taken.clocks.items c.loop-taken.book.cores c.loop-taken.now (is_held_in c.held_cores-waiting.result) (held_in (holding_of c.args.holds.now) c.loop-taken.book (harts_of c.loop-taken.held)) c.in-Some.turn c.loop-taken.invariant.sound.count (same_held c.args.cores (length c.loop-taken.clocks.items) (is_held_in c.held_cores-waiting.result) (held_in (holding_of c.args.holds.now) c.loop-taken.book (harts_of c.loop-taken.held)) (c.loop-taken.invariant.sound.count ∙ (c.loop-taken.invariant.same.cores ∙ c.requires.book.1)) c.held_cores-waiting.ensures) c.in-Some.ensures) c.be_late.new.clocks.items c.be_late.ensures.len c.be_late.ensures.each)
+    (late_turn c.loop-taken.now (dues (held_in (holding_of c.args.holds.now) c.loop-taken.book (harts_of c.loop-taken.held)) (clock_at c.loop-taken.clocks.items)) (clock_at c.loop-taken.clocks.items) (clock_at c.be_late.new.clocks.items) c.loop-taken.book.cores c.in-Some.turn (first_of c.loop-taken.clocks.items c.loop-taken.book.cores c.loop-taken.now (is_held_in c.held_cores-waiting.result) (held_in (holding_of c.args.holds.now) c.loop-taken.book (harts_of c.loop-taken.held)) c.in-Some.turn c.loop-taken.invariant.sound.count (same_held c.args.cores (length c.loop-taken.clocks.items) (is_held_in c.held_cores-waiting.result) (held_in (holding_of c.args.holds.now) c.loop-taken.book (harts_of c.loop-taken.held)) (c.loop-taken.invariant.sound.count ∙ (c.loop-taken.invariant.same.cores ∙ c.requires.book.1)) c.held_cores-waiting.ensures) c.in-Some.ensures) c.be_late.ensures.each) (not (c.totals.result.restarts == c.totals-restarts.result.restarts))
     c.executed_by-executed.result c.in_ok-answer.answer c.executed_by-executed.ensures.few c.set_clock.new.clocks.items c.set_clock.ensures.len
     (each_by c.be_late.new.clocks.items c.set_clock.new.clocks.items c.in-Some.turn.core c.answered-clock.result
     (answered c.in-Some.turn.at (not (c.totals.result.restarts == c.totals-restarts.result.restarts)) c.executed_by-executed.result c.in_ok-answer.answer (clock_at c.be_late.new.clocks.items c.in-Some.turn.core)) c.set_clock.ensures.each
@@ -161,9 +178,9 @@ account_of-account-requires-clause-sound g c =
 
 pub returns-in-Over-clause-evenly : goal.returns-in-Over-clause-evenly
 returns-in-Over-clause-evenly g c =
-    (ends_over g.S.EpochStore.makes g.S.EpochStore.view g.S.EpochStore.waits (loads_at c.args.holds.now) at_first (record { held = harts_of c.loop-taken.held; clocks = clock_at c.loop-taken.clocks.items; now = c.loop-taken.now }) (driver c.args.book.now c.args.shares.now)
+    (ends_over g.S.EpochStore.makes g.S.EpochStore.view g.S.EpochStore.waits (holding_of c.args.holds.now) at_first (record { held = harts_of c.loop-taken.held; clocks = clock_at c.loop-taken.clocks.items; now = c.loop-taken.now }) (driver c.args.book.now c.args.shares.now)
     (driver c.loop-taken.book c.loop-taken.shares) (driver c.step.new.book c.step.new.shares) c.loop-taken.schedule.items c.push.new.self.items c.in-Some.turn c.loop-taken.invariant.drives
-    (first_of c.loop-taken.clocks.items c.loop-taken.book.cores c.loop-taken.now (is_held_in c.held_cores-waiting.result) (held_in (loads_at c.args.holds.now) c.loop-taken.book (harts_of c.loop-taken.held)) c.in-Some.turn c.loop-taken.invariant.sound.count (same_held c.args.cores (length c.loop-taken.clocks.items) (is_held_in c.held_cores-waiting.result) (held_in (loads_at c.args.holds.now) c.loop-taken.book (harts_of c.loop-taken.held)) (c.loop-taken.invariant.sound.count ∙ (c.loop-taken.invariant.same.cores ∙ c.requires.book.1)) c.held_cores-waiting.ensures) c.in-Some.ensures) c.in-Ok-push.ensures.items
+    (first_of c.loop-taken.clocks.items c.loop-taken.book.cores c.loop-taken.now (is_held_in c.held_cores-waiting.result) (held_in (holding_of c.args.holds.now) c.loop-taken.book (harts_of c.loop-taken.held)) c.in-Some.turn c.loop-taken.invariant.sound.count (same_held c.args.cores (length c.loop-taken.clocks.items) (is_held_in c.held_cores-waiting.result) (held_in (holding_of c.args.holds.now) c.loop-taken.book (harts_of c.loop-taken.held)) (c.loop-taken.invariant.sound.count ∙ (c.loop-taken.invariant.same.cores ∙ c.requires.book.1)) c.held_cores-waiting.ensures) c.in-Some.ensures) c.in-Ok-push.ensures.items
     c.in_ok-answer.answer c.in-Over.end (clock_at c.set_clock.new.clocks.items) c.account_of-account.result c.in-Over.is
     (λ k. (last_are (driver c.loop-taken.book c.loop-taken.shares) (driver c.step.new.book c.step.new.shares) (clock_at c.be_late.new.clocks.items) (clock_at c.set_clock.new.clocks.items) c.in-Some.turn c.in_ok-answer.answer (not (c.totals.result.restarts == c.totals-restarts.result.restarts))
     c.executed_by-executed.result (same_restarts c.totals.result c.totals-restarts.result c.step.new.book.totals c.loop-taken.book.totals c.totals.ensures c.totals-restarts.ensures)
@@ -176,11 +193,11 @@ returns-in-Over-clause-evenly g c =
 
 pub returns-in-Over-clause-driven : goal.returns-in-Over-clause-driven
 returns-in-Over-clause-driven g c =
-    is_driven g.S.EpochStore.makes g.S.EpochStore.view g.S.EpochStore.waits (loads_at c.args.holds.now) at_first (driver c.args.book.now c.args.shares.now) (driver c.step.new.book c.step.new.shares) c.push.new.self.items
+    is_driven g.S.EpochStore.makes g.S.EpochStore.view g.S.EpochStore.waits (holding_of c.args.holds.now) at_first (driver c.args.book.now c.args.shares.now) (driver c.step.new.book c.step.new.shares) c.push.new.self.items
     (Ok (Some (record { end = c.in-Over.end; steps = c.in-Some.turn.at + 1; account = c.account_of-account.result })))
-    (ends_over g.S.EpochStore.makes g.S.EpochStore.view g.S.EpochStore.waits (loads_at c.args.holds.now) at_first (record { held = harts_of c.loop-taken.held; clocks = clock_at c.loop-taken.clocks.items; now = c.loop-taken.now }) (driver c.args.book.now c.args.shares.now)
+    (ends_over g.S.EpochStore.makes g.S.EpochStore.view g.S.EpochStore.waits (holding_of c.args.holds.now) at_first (record { held = harts_of c.loop-taken.held; clocks = clock_at c.loop-taken.clocks.items; now = c.loop-taken.now }) (driver c.args.book.now c.args.shares.now)
     (driver c.loop-taken.book c.loop-taken.shares) (driver c.step.new.book c.step.new.shares) c.loop-taken.schedule.items c.push.new.self.items c.in-Some.turn c.loop-taken.invariant.drives
-    (first_of c.loop-taken.clocks.items c.loop-taken.book.cores c.loop-taken.now (is_held_in c.held_cores-waiting.result) (held_in (loads_at c.args.holds.now) c.loop-taken.book (harts_of c.loop-taken.held)) c.in-Some.turn c.loop-taken.invariant.sound.count (same_held c.args.cores (length c.loop-taken.clocks.items) (is_held_in c.held_cores-waiting.result) (held_in (loads_at c.args.holds.now) c.loop-taken.book (harts_of c.loop-taken.held)) (c.loop-taken.invariant.sound.count ∙ (c.loop-taken.invariant.same.cores ∙ c.requires.book.1)) c.held_cores-waiting.ensures) c.in-Some.ensures) c.in-Ok-push.ensures.items
+    (first_of c.loop-taken.clocks.items c.loop-taken.book.cores c.loop-taken.now (is_held_in c.held_cores-waiting.result) (held_in (holding_of c.args.holds.now) c.loop-taken.book (harts_of c.loop-taken.held)) c.in-Some.turn c.loop-taken.invariant.sound.count (same_held c.args.cores (length c.loop-taken.clocks.items) (is_held_in c.held_cores-waiting.result) (held_in (holding_of c.args.holds.now) c.loop-taken.book (harts_of c.loop-taken.held)) (c.loop-taken.invariant.sound.count ∙ (c.loop-taken.invariant.same.cores ∙ c.requires.book.1)) c.held_cores-waiting.ensures) c.in-Some.ensures) c.in-Ok-push.ensures.items
     c.in_ok-answer.answer c.in-Over.end (clock_at c.set_clock.new.clocks.items) c.account_of-account.result c.in-Over.is
     (λ k. (last_are (driver c.loop-taken.book c.loop-taken.shares) (driver c.step.new.book c.step.new.shares) (clock_at c.be_late.new.clocks.items) (clock_at c.set_clock.new.clocks.items) c.in-Some.turn c.in_ok-answer.answer (not (c.totals.result.restarts == c.totals-restarts.result.restarts))
     c.executed_by-executed.result (same_restarts c.totals.result c.totals-restarts.result c.step.new.book.totals c.loop-taken.book.totals c.totals.ensures c.totals-restarts.ensures)
@@ -193,8 +210,8 @@ returns-in-Over-clause-driven g c =
 
 pub returns-in-Over-clause-short : goal.returns-in-Over-clause-short
 returns-in-Over-clause-short g c =
-    let due = by_bound c.loop-taken._taken c.loop-taken.book.cores c.be_late.new.clocks.items c.in-Some.turn (lates_sound c.loop-taken._taken c.loop-taken.book.cores c.loop-taken.now c.loop-taken.clocks.items c.loop-taken.invariant.sound (held_in (loads_at c.args.holds.now) c.loop-taken.book (harts_of c.loop-taken.held)) c.in-Some.turn (first_of c.loop-taken.clocks.items c.loop-taken.book.cores c.loop-taken.now (is_held_in c.held_cores-waiting.result) (held_in (loads_at c.args.holds.now) c.loop-taken.book (harts_of c.loop-taken.held)) c.in-Some.turn c.loop-taken.invariant.sound.count (same_held c.args.cores (length c.loop-taken.clocks.items) (is_held_in c.held_cores-waiting.result) (held_in (loads_at c.args.holds.now) c.loop-taken.book (harts_of c.loop-taken.held)) (c.loop-taken.invariant.sound.count ∙ (c.loop-taken.invariant.same.cores ∙ c.requires.book.1)) c.held_cores-waiting.ensures) c.in-Some.ensures) c.be_late.new.clocks.items c.be_late.ensures.len c.be_late.ensures.each)
-    (late_turn c.loop-taken.now (dues (held_in (loads_at c.args.holds.now) c.loop-taken.book (harts_of c.loop-taken.held)) (clock_at c.loop-taken.clocks.items)) (clock_at c.loop-taken.clocks.items) (clock_at c.be_late.new.clocks.items) c.loop-taken.book.cores c.in-Some.turn (first_of c.loop-taken.clocks.items c.loop-taken.book.cores c.loop-taken.now (is_held_in c.held_cores-waiting.result) (held_in (loads_at c.args.holds.now) c.loop-taken.book (harts_of c.loop-taken.held)) c.in-Some.turn c.loop-taken.invariant.sound.count (same_held c.args.cores (length c.loop-taken.clocks.items) (is_held_in c.held_cores-waiting.result) (held_in (loads_at c.args.holds.now) c.loop-taken.book (harts_of c.loop-taken.held)) (c.loop-taken.invariant.sound.count ∙ (c.loop-taken.invariant.same.cores ∙ c.requires.book.1)) c.held_cores-waiting.ensures) c.in-Some.ensures) c.be_late.ensures.each) in
+    let due = by_bound c.loop-taken._taken c.loop-taken.book.cores c.be_late.new.clocks.items c.in-Some.turn (lates_sound c.loop-taken._taken c.loop-taken.book.cores c.loop-taken.now c.loop-taken.clocks.items c.loop-taken.invariant.sound (held_in (holding_of c.args.holds.now) c.loop-taken.book (harts_of c.loop-taken.held)) c.in-Some.turn (first_of c.loop-taken.clocks.items c.loop-taken.book.cores c.loop-taken.now (is_held_in c.held_cores-waiting.result) (held_in (holding_of c.args.holds.now) c.loop-taken.book (harts_of c.loop-taken.held)) c.in-Some.turn c.loop-taken.invariant.sound.count (same_held c.args.cores (length c.loop-taken.clocks.items) (is_held_in c.held_cores-waiting.result) (held_in (holding_of c.args.holds.now) c.loop-taken.book (harts_of c.loop-taken.held)) (c.loop-taken.invariant.sound.count ∙ (c.loop-taken.invariant.same.cores ∙ c.requires.book.1)) c.held_cores-waiting.ensures) c.in-Some.ensures) c.be_late.new.clocks.items c.be_late.ensures.len c.be_late.ensures.each)
+    (late_turn c.loop-taken.now (dues (held_in (holding_of c.args.holds.now) c.loop-taken.book (harts_of c.loop-taken.held)) (clock_at c.loop-taken.clocks.items)) (clock_at c.loop-taken.clocks.items) (clock_at c.be_late.new.clocks.items) c.loop-taken.book.cores c.in-Some.turn (first_of c.loop-taken.clocks.items c.loop-taken.book.cores c.loop-taken.now (is_held_in c.held_cores-waiting.result) (held_in (holding_of c.args.holds.now) c.loop-taken.book (harts_of c.loop-taken.held)) c.in-Some.turn c.loop-taken.invariant.sound.count (same_held c.args.cores (length c.loop-taken.clocks.items) (is_held_in c.held_cores-waiting.result) (held_in (holding_of c.args.holds.now) c.loop-taken.book (harts_of c.loop-taken.held)) (c.loop-taken.invariant.sound.count ∙ (c.loop-taken.invariant.same.cores ∙ c.requires.book.1)) c.held_cores-waiting.ensures) c.in-Some.ensures) c.be_late.ensures.each) in
     (omega arith, omega (arith, due, c.loop-taken-test.true))
 
 pub returns-in-Over-clause-end : goal.returns-in-Over-clause-end
@@ -210,7 +227,7 @@ returns-in-Over-clause-accounts g c =
     let end = c.in-Over.end in
     let clocks = clock_at c.set_clock.new.clocks.items in
     let account = c.account_of-account.result in
-    let first = (late_turn c.loop-taken.now (dues (held_in (loads_at c.args.holds.now) c.loop-taken.book (harts_of c.loop-taken.held)) (clock_at c.loop-taken.clocks.items)) (clock_at c.loop-taken.clocks.items) (clock_at c.be_late.new.clocks.items) c.loop-taken.book.cores c.in-Some.turn (first_of c.loop-taken.clocks.items c.loop-taken.book.cores c.loop-taken.now (is_held_in c.held_cores-waiting.result) (held_in (loads_at c.args.holds.now) c.loop-taken.book (harts_of c.loop-taken.held)) c.in-Some.turn c.loop-taken.invariant.sound.count (same_held c.args.cores (length c.loop-taken.clocks.items) (is_held_in c.held_cores-waiting.result) (held_in (loads_at c.args.holds.now) c.loop-taken.book (harts_of c.loop-taken.held)) (c.loop-taken.invariant.sound.count ∙ (c.loop-taken.invariant.same.cores ∙ c.requires.book.1)) c.held_cores-waiting.ensures) c.in-Some.ensures) c.be_late.ensures.each) in
+    let first = (late_turn c.loop-taken.now (dues (held_in (holding_of c.args.holds.now) c.loop-taken.book (harts_of c.loop-taken.held)) (clock_at c.loop-taken.clocks.items)) (clock_at c.loop-taken.clocks.items) (clock_at c.be_late.new.clocks.items) c.loop-taken.book.cores c.in-Some.turn (first_of c.loop-taken.clocks.items c.loop-taken.book.cores c.loop-taken.now (is_held_in c.held_cores-waiting.result) (held_in (holding_of c.args.holds.now) c.loop-taken.book (harts_of c.loop-taken.held)) c.in-Some.turn c.loop-taken.invariant.sound.count (same_held c.args.cores (length c.loop-taken.clocks.items) (is_held_in c.held_cores-waiting.result) (held_in (holding_of c.args.holds.now) c.loop-taken.book (harts_of c.loop-taken.held)) (c.loop-taken.invariant.sound.count ∙ (c.loop-taken.invariant.same.cores ∙ c.requires.book.1)) c.held_cores-waiting.ensures) c.in-Some.ensures) c.be_late.ensures.each) in
     let are = (last_are (driver c.loop-taken.book c.loop-taken.shares) (driver c.step.new.book c.step.new.shares) (clock_at c.be_late.new.clocks.items) (clock_at c.set_clock.new.clocks.items) c.in-Some.turn c.in_ok-answer.answer (not (c.totals.result.restarts == c.totals-restarts.result.restarts)) c.executed_by-executed.result (same_restarts c.totals.result c.totals-restarts.result c.step.new.book.totals c.loop-taken.book.totals c.totals.ensures c.totals-restarts.ensures) (c.executed_by-executed.ensures.is ∙ ap (λ m. executed_by m c.in_ok-answer.answer) (sym (c.loop-taken.invariant.same.image ∙ c.requires.book.0))) (each_by c.be_late.new.clocks.items c.set_clock.new.clocks.items c.in-Some.turn.core c.answered-clock.result (answered c.in-Some.turn.at (not (c.totals.result.restarts == c.totals-restarts.result.restarts)) c.executed_by-executed.result c.in_ok-answer.answer (clock_at c.be_late.new.clocks.items c.in-Some.turn.core)) c.set_clock.ensures.each (c.answered-clock.ensures ∙ ap (answered c.in-Some.turn.at (not (c.totals.result.restarts == c.totals-restarts.result.restarts)) c.executed_by-executed.result c.in_ok-answer.answer) c.clock_of-clock.ensures)) c.in-Over.end c.in-Over.is) in
     let sum = (c.account_of-account.ensures.is ∙ ap (account_of (c.in-Some.turn.at + 1) (clock_at c.set_clock.new.clocks.items)) (c.set_clock.ensures.len ∙ (c.be_late.ensures.len ∙ c.loop-taken.invariant.sound.count))) in
     let leads : Leads old mid turn.core (harts_of c.loop-taken.held turn.core) (Ok (Over end)) =
@@ -220,40 +237,40 @@ returns-in-Over-clause-accounts g c =
     let wastes : c.args.book.now.cores ≡ 1 → WastesNone account = λ one.
     over_none old mid pace.clocks turn (the_first turn.core c.loop-taken.book.cores first.core (only one))
     (no_restart c.loop-taken.book.totals.restarts c.step.new.book.totals.restarts (c.loop-taken.invariant.alone (only one)).0 (c.step.ensures.alone (only one)).0)
-    end clocks are account c.loop-taken.book.cores (only one) sum (late_alone c.loop-taken.now (held_in (loads_at c.args.holds.now) c.loop-taken.book (harts_of c.loop-taken.held)) (clock_at c.loop-taken.clocks.items) (clock_at c.be_late.new.clocks.items) c.loop-taken.book.cores c.in-Some.turn (the_first turn.core c.loop-taken.book.cores first.core (only one)) (first_of c.loop-taken.clocks.items c.loop-taken.book.cores c.loop-taken.now (is_held_in c.held_cores-waiting.result) (held_in (loads_at c.args.holds.now) c.loop-taken.book (harts_of c.loop-taken.held)) c.in-Some.turn c.loop-taken.invariant.sound.count (same_held c.args.cores (length c.loop-taken.clocks.items) (is_held_in c.held_cores-waiting.result) (held_in (loads_at c.args.holds.now) c.loop-taken.book (harts_of c.loop-taken.held)) (c.loop-taken.invariant.sound.count ∙ (c.loop-taken.invariant.same.cores ∙ c.requires.book.1)) c.held_cores-waiting.ensures) c.in-Some.ensures) c.be_late.ensures.each (c.loop-taken.invariant.alone (only one)).1) in record {
+    end clocks are account c.loop-taken.book.cores (only one) sum (late_alone c.loop-taken.now (held_in (holding_of c.args.holds.now) c.loop-taken.book (harts_of c.loop-taken.held)) (clock_at c.loop-taken.clocks.items) (clock_at c.be_late.new.clocks.items) c.loop-taken.book.cores c.in-Some.turn (the_first turn.core c.loop-taken.book.cores first.core (only one)) (first_of c.loop-taken.clocks.items c.loop-taken.book.cores c.loop-taken.now (is_held_in c.held_cores-waiting.result) (held_in (holding_of c.args.holds.now) c.loop-taken.book (harts_of c.loop-taken.held)) c.in-Some.turn c.loop-taken.invariant.sound.count (same_held c.args.cores (length c.loop-taken.clocks.items) (is_held_in c.held_cores-waiting.result) (held_in (holding_of c.args.holds.now) c.loop-taken.book (harts_of c.loop-taken.held)) (c.loop-taken.invariant.sound.count ∙ (c.loop-taken.invariant.same.cores ∙ c.requires.book.1)) c.held_cores-waiting.ensures) c.in-Some.ensures) c.be_late.ensures.each (c.loop-taken.invariant.alone (only one)).1) in record {
       alone = wastes;
       useful = λ fresh n done.
-          over_timed old mid pace turn c.step.ensures.same first (late_timed c.loop-taken.book (record { held = harts_of c.loop-taken.held; clocks = clock_at c.loop-taken.clocks.items; now = c.loop-taken.now }) (clock_at c.be_late.new.clocks.items) c.in-Some.turn (was_due c.loop-taken._taken c.loop-taken.book.cores c.loop-taken.now c.loop-taken.clocks.items c.loop-taken.invariant.sound (held_in (loads_at c.args.holds.now) c.loop-taken.book (harts_of c.loop-taken.held)) c.in-Some.turn (first_of c.loop-taken.clocks.items c.loop-taken.book.cores c.loop-taken.now (is_held_in c.held_cores-waiting.result) (held_in (loads_at c.args.holds.now) c.loop-taken.book (harts_of c.loop-taken.held)) c.in-Some.turn c.loop-taken.invariant.sound.count (same_held c.args.cores (length c.loop-taken.clocks.items) (is_held_in c.held_cores-waiting.result) (held_in (loads_at c.args.holds.now) c.loop-taken.book (harts_of c.loop-taken.held)) (c.loop-taken.invariant.sound.count ∙ (c.loop-taken.invariant.same.cores ∙ c.requires.book.1)) c.held_cores-waiting.ensures) c.in-Some.ensures)) (due_before c.loop-taken._taken c.loop-taken.book.cores c.loop-taken.now c.loop-taken.clocks.items c.loop-taken.invariant.sound (held_in (loads_at c.args.holds.now) c.loop-taken.book (harts_of c.loop-taken.held)) c.in-Some.turn (first_of c.loop-taken.clocks.items c.loop-taken.book.cores c.loop-taken.now (is_held_in c.held_cores-waiting.result) (held_in (loads_at c.args.holds.now) c.loop-taken.book (harts_of c.loop-taken.held)) c.in-Some.turn c.loop-taken.invariant.sound.count (same_held c.args.cores (length c.loop-taken.clocks.items) (is_held_in c.held_cores-waiting.result) (held_in (loads_at c.args.holds.now) c.loop-taken.book (harts_of c.loop-taken.held)) (c.loop-taken.invariant.sound.count ∙ (c.loop-taken.invariant.same.cores ∙ c.requires.book.1)) c.held_cores-waiting.ensures) c.in-Some.ensures)) c.be_late.ensures.each (first_of c.loop-taken.clocks.items c.loop-taken.book.cores c.loop-taken.now (is_held_in c.held_cores-waiting.result) (held_in (loads_at c.args.holds.now) c.loop-taken.book (harts_of c.loop-taken.held)) c.in-Some.turn c.loop-taken.invariant.sound.count (same_held c.args.cores (length c.loop-taken.clocks.items) (is_held_in c.held_cores-waiting.result) (held_in (loads_at c.args.holds.now) c.loop-taken.book (harts_of c.loop-taken.held)) (c.loop-taken.invariant.sound.count ∙ (c.loop-taken.invariant.same.cores ∙ c.requires.book.1)) c.held_cores-waiting.ensures) c.in-Some.ensures).core (c.loop-taken.invariant.timed fresh)) end n clocks account leads done are sum ∙ ap (λ i. steps_in_order i n) image;
+          over_timed old mid pace turn c.step.ensures.same first (late_timed c.loop-taken.book (record { held = harts_of c.loop-taken.held; clocks = clock_at c.loop-taken.clocks.items; now = c.loop-taken.now }) (clock_at c.be_late.new.clocks.items) c.in-Some.turn (was_due c.loop-taken._taken c.loop-taken.book.cores c.loop-taken.now c.loop-taken.clocks.items c.loop-taken.invariant.sound (held_in (holding_of c.args.holds.now) c.loop-taken.book (harts_of c.loop-taken.held)) c.in-Some.turn (first_of c.loop-taken.clocks.items c.loop-taken.book.cores c.loop-taken.now (is_held_in c.held_cores-waiting.result) (held_in (holding_of c.args.holds.now) c.loop-taken.book (harts_of c.loop-taken.held)) c.in-Some.turn c.loop-taken.invariant.sound.count (same_held c.args.cores (length c.loop-taken.clocks.items) (is_held_in c.held_cores-waiting.result) (held_in (holding_of c.args.holds.now) c.loop-taken.book (harts_of c.loop-taken.held)) (c.loop-taken.invariant.sound.count ∙ (c.loop-taken.invariant.same.cores ∙ c.requires.book.1)) c.held_cores-waiting.ensures) c.in-Some.ensures)) (due_before c.loop-taken._taken c.loop-taken.book.cores c.loop-taken.now c.loop-taken.clocks.items c.loop-taken.invariant.sound (held_in (holding_of c.args.holds.now) c.loop-taken.book (harts_of c.loop-taken.held)) c.in-Some.turn (first_of c.loop-taken.clocks.items c.loop-taken.book.cores c.loop-taken.now (is_held_in c.held_cores-waiting.result) (held_in (holding_of c.args.holds.now) c.loop-taken.book (harts_of c.loop-taken.held)) c.in-Some.turn c.loop-taken.invariant.sound.count (same_held c.args.cores (length c.loop-taken.clocks.items) (is_held_in c.held_cores-waiting.result) (held_in (holding_of c.args.holds.now) c.loop-taken.book (harts_of c.loop-taken.held)) (c.loop-taken.invariant.sound.count ∙ (c.loop-taken.invariant.same.cores ∙ c.requires.book.1)) c.held_cores-waiting.ensures) c.in-Some.ensures)) c.be_late.ensures.each (first_of c.loop-taken.clocks.items c.loop-taken.book.cores c.loop-taken.now (is_held_in c.held_cores-waiting.result) (held_in (holding_of c.args.holds.now) c.loop-taken.book (harts_of c.loop-taken.held)) c.in-Some.turn c.loop-taken.invariant.sound.count (same_held c.args.cores (length c.loop-taken.clocks.items) (is_held_in c.held_cores-waiting.result) (held_in (holding_of c.args.holds.now) c.loop-taken.book (harts_of c.loop-taken.held)) (c.loop-taken.invariant.sound.count ∙ (c.loop-taken.invariant.same.cores ∙ c.requires.book.1)) c.held_cores-waiting.ensures) c.in-Some.ensures).core (c.loop-taken.invariant.timed fresh)) end n clocks account leads done are sum ∙ ap (λ i. steps_in_order i n) image;
       steps = λ one fresh n done.
           let long = c.set_clock.ensures.len ∙ (c.be_late.ensures.len ∙ (c.loop-taken.invariant.sound.count ∙ only one)) in
-          over_steps old mid pace turn c.step.ensures.same first (late_timed c.loop-taken.book (record { held = harts_of c.loop-taken.held; clocks = clock_at c.loop-taken.clocks.items; now = c.loop-taken.now }) (clock_at c.be_late.new.clocks.items) c.in-Some.turn (was_due c.loop-taken._taken c.loop-taken.book.cores c.loop-taken.now c.loop-taken.clocks.items c.loop-taken.invariant.sound (held_in (loads_at c.args.holds.now) c.loop-taken.book (harts_of c.loop-taken.held)) c.in-Some.turn (first_of c.loop-taken.clocks.items c.loop-taken.book.cores c.loop-taken.now (is_held_in c.held_cores-waiting.result) (held_in (loads_at c.args.holds.now) c.loop-taken.book (harts_of c.loop-taken.held)) c.in-Some.turn c.loop-taken.invariant.sound.count (same_held c.args.cores (length c.loop-taken.clocks.items) (is_held_in c.held_cores-waiting.result) (held_in (loads_at c.args.holds.now) c.loop-taken.book (harts_of c.loop-taken.held)) (c.loop-taken.invariant.sound.count ∙ (c.loop-taken.invariant.same.cores ∙ c.requires.book.1)) c.held_cores-waiting.ensures) c.in-Some.ensures)) (due_before c.loop-taken._taken c.loop-taken.book.cores c.loop-taken.now c.loop-taken.clocks.items c.loop-taken.invariant.sound (held_in (loads_at c.args.holds.now) c.loop-taken.book (harts_of c.loop-taken.held)) c.in-Some.turn (first_of c.loop-taken.clocks.items c.loop-taken.book.cores c.loop-taken.now (is_held_in c.held_cores-waiting.result) (held_in (loads_at c.args.holds.now) c.loop-taken.book (harts_of c.loop-taken.held)) c.in-Some.turn c.loop-taken.invariant.sound.count (same_held c.args.cores (length c.loop-taken.clocks.items) (is_held_in c.held_cores-waiting.result) (held_in (loads_at c.args.holds.now) c.loop-taken.book (harts_of c.loop-taken.held)) (c.loop-taken.invariant.sound.count ∙ (c.loop-taken.invariant.same.cores ∙ c.requires.book.1)) c.held_cores-waiting.ensures) c.in-Some.ensures)) c.be_late.ensures.each (first_of c.loop-taken.clocks.items c.loop-taken.book.cores c.loop-taken.now (is_held_in c.held_cores-waiting.result) (held_in (loads_at c.args.holds.now) c.loop-taken.book (harts_of c.loop-taken.held)) c.in-Some.turn c.loop-taken.invariant.sound.count (same_held c.args.cores (length c.loop-taken.clocks.items) (is_held_in c.held_cores-waiting.result) (held_in (loads_at c.args.holds.now) c.loop-taken.book (harts_of c.loop-taken.held)) (c.loop-taken.invariant.sound.count ∙ (c.loop-taken.invariant.same.cores ∙ c.requires.book.1)) c.held_cores-waiting.ensures) c.in-Some.ensures).core (c.loop-taken.invariant.timed fresh)) end n clocks account leads done are sum
-          (the_first turn.core c.loop-taken.book.cores first.core (only one)) (only one) (late_never_idle c.loop-taken.book.image c.loop-taken.book.cores (c.loop-taken.invariant.timed fresh).0 (record { held = harts_of c.loop-taken.held; clocks = clock_at c.loop-taken.clocks.items; now = c.loop-taken.now }) (clock_at c.be_late.new.clocks.items) c.in-Some.turn (was_due c.loop-taken._taken c.loop-taken.book.cores c.loop-taken.now c.loop-taken.clocks.items c.loop-taken.invariant.sound (held_in (loads_at c.args.holds.now) c.loop-taken.book (harts_of c.loop-taken.held)) c.in-Some.turn (first_of c.loop-taken.clocks.items c.loop-taken.book.cores c.loop-taken.now (is_held_in c.held_cores-waiting.result) (held_in (loads_at c.args.holds.now) c.loop-taken.book (harts_of c.loop-taken.held)) c.in-Some.turn c.loop-taken.invariant.sound.count (same_held c.args.cores (length c.loop-taken.clocks.items) (is_held_in c.held_cores-waiting.result) (held_in (loads_at c.args.holds.now) c.loop-taken.book (harts_of c.loop-taken.held)) (c.loop-taken.invariant.sound.count ∙ (c.loop-taken.invariant.same.cores ∙ c.requires.book.1)) c.held_cores-waiting.ensures) c.in-Some.ensures)) (due_before c.loop-taken._taken c.loop-taken.book.cores c.loop-taken.now c.loop-taken.clocks.items c.loop-taken.invariant.sound (held_in (loads_at c.args.holds.now) c.loop-taken.book (harts_of c.loop-taken.held)) c.in-Some.turn (first_of c.loop-taken.clocks.items c.loop-taken.book.cores c.loop-taken.now (is_held_in c.held_cores-waiting.result) (held_in (loads_at c.args.holds.now) c.loop-taken.book (harts_of c.loop-taken.held)) c.in-Some.turn c.loop-taken.invariant.sound.count (same_held c.args.cores (length c.loop-taken.clocks.items) (is_held_in c.held_cores-waiting.result) (held_in (loads_at c.args.holds.now) c.loop-taken.book (harts_of c.loop-taken.held)) (c.loop-taken.invariant.sound.count ∙ (c.loop-taken.invariant.same.cores ∙ c.requires.book.1)) c.held_cores-waiting.ensures) c.in-Some.ensures)) c.be_late.ensures.each (c.loop-taken.invariant.busy fresh (only one))) (wastes one)
+          over_steps old mid pace turn c.step.ensures.same first (late_timed c.loop-taken.book (record { held = harts_of c.loop-taken.held; clocks = clock_at c.loop-taken.clocks.items; now = c.loop-taken.now }) (clock_at c.be_late.new.clocks.items) c.in-Some.turn (was_due c.loop-taken._taken c.loop-taken.book.cores c.loop-taken.now c.loop-taken.clocks.items c.loop-taken.invariant.sound (held_in (holding_of c.args.holds.now) c.loop-taken.book (harts_of c.loop-taken.held)) c.in-Some.turn (first_of c.loop-taken.clocks.items c.loop-taken.book.cores c.loop-taken.now (is_held_in c.held_cores-waiting.result) (held_in (holding_of c.args.holds.now) c.loop-taken.book (harts_of c.loop-taken.held)) c.in-Some.turn c.loop-taken.invariant.sound.count (same_held c.args.cores (length c.loop-taken.clocks.items) (is_held_in c.held_cores-waiting.result) (held_in (holding_of c.args.holds.now) c.loop-taken.book (harts_of c.loop-taken.held)) (c.loop-taken.invariant.sound.count ∙ (c.loop-taken.invariant.same.cores ∙ c.requires.book.1)) c.held_cores-waiting.ensures) c.in-Some.ensures)) (due_before c.loop-taken._taken c.loop-taken.book.cores c.loop-taken.now c.loop-taken.clocks.items c.loop-taken.invariant.sound (held_in (holding_of c.args.holds.now) c.loop-taken.book (harts_of c.loop-taken.held)) c.in-Some.turn (first_of c.loop-taken.clocks.items c.loop-taken.book.cores c.loop-taken.now (is_held_in c.held_cores-waiting.result) (held_in (holding_of c.args.holds.now) c.loop-taken.book (harts_of c.loop-taken.held)) c.in-Some.turn c.loop-taken.invariant.sound.count (same_held c.args.cores (length c.loop-taken.clocks.items) (is_held_in c.held_cores-waiting.result) (held_in (holding_of c.args.holds.now) c.loop-taken.book (harts_of c.loop-taken.held)) (c.loop-taken.invariant.sound.count ∙ (c.loop-taken.invariant.same.cores ∙ c.requires.book.1)) c.held_cores-waiting.ensures) c.in-Some.ensures)) c.be_late.ensures.each (first_of c.loop-taken.clocks.items c.loop-taken.book.cores c.loop-taken.now (is_held_in c.held_cores-waiting.result) (held_in (holding_of c.args.holds.now) c.loop-taken.book (harts_of c.loop-taken.held)) c.in-Some.turn c.loop-taken.invariant.sound.count (same_held c.args.cores (length c.loop-taken.clocks.items) (is_held_in c.held_cores-waiting.result) (held_in (holding_of c.args.holds.now) c.loop-taken.book (harts_of c.loop-taken.held)) (c.loop-taken.invariant.sound.count ∙ (c.loop-taken.invariant.same.cores ∙ c.requires.book.1)) c.held_cores-waiting.ensures) c.in-Some.ensures).core (c.loop-taken.invariant.timed fresh)) end n clocks account leads done are sum
+          (the_first turn.core c.loop-taken.book.cores first.core (only one)) (only one) (late_never_idle c.loop-taken.book.image c.loop-taken.book.cores (c.loop-taken.invariant.timed fresh).0 (record { held = harts_of c.loop-taken.held; clocks = clock_at c.loop-taken.clocks.items; now = c.loop-taken.now }) (clock_at c.be_late.new.clocks.items) c.in-Some.turn (was_due c.loop-taken._taken c.loop-taken.book.cores c.loop-taken.now c.loop-taken.clocks.items c.loop-taken.invariant.sound (held_in (holding_of c.args.holds.now) c.loop-taken.book (harts_of c.loop-taken.held)) c.in-Some.turn (first_of c.loop-taken.clocks.items c.loop-taken.book.cores c.loop-taken.now (is_held_in c.held_cores-waiting.result) (held_in (holding_of c.args.holds.now) c.loop-taken.book (harts_of c.loop-taken.held)) c.in-Some.turn c.loop-taken.invariant.sound.count (same_held c.args.cores (length c.loop-taken.clocks.items) (is_held_in c.held_cores-waiting.result) (held_in (holding_of c.args.holds.now) c.loop-taken.book (harts_of c.loop-taken.held)) (c.loop-taken.invariant.sound.count ∙ (c.loop-taken.invariant.same.cores ∙ c.requires.book.1)) c.held_cores-waiting.ensures) c.in-Some.ensures)) (due_before c.loop-taken._taken c.loop-taken.book.cores c.loop-taken.now c.loop-taken.clocks.items c.loop-taken.invariant.sound (held_in (holding_of c.args.holds.now) c.loop-taken.book (harts_of c.loop-taken.held)) c.in-Some.turn (first_of c.loop-taken.clocks.items c.loop-taken.book.cores c.loop-taken.now (is_held_in c.held_cores-waiting.result) (held_in (holding_of c.args.holds.now) c.loop-taken.book (harts_of c.loop-taken.held)) c.in-Some.turn c.loop-taken.invariant.sound.count (same_held c.args.cores (length c.loop-taken.clocks.items) (is_held_in c.held_cores-waiting.result) (held_in (holding_of c.args.holds.now) c.loop-taken.book (harts_of c.loop-taken.held)) (c.loop-taken.invariant.sound.count ∙ (c.loop-taken.invariant.same.cores ∙ c.requires.book.1)) c.held_cores-waiting.ensures) c.in-Some.ensures)) c.be_late.ensures.each (c.loop-taken.invariant.busy fresh (only one))) (wastes one)
           (c.account_of-account.ensures.whole ∙ ap (λ k. k * (turn.at + 1)) long) ∙ ap (λ i. steps_in_order i (suc n)) image;
     }
 
 pub returns-in-Stopped-clause-evenly : goal.returns-in-Stopped-clause-evenly
 returns-in-Stopped-clause-evenly g c =
-    ends_stopped g.S.EpochStore.makes g.S.EpochStore.view g.S.EpochStore.waits (loads_at c.args.holds.now) at_first (record { held = harts_of c.loop-taken.held; clocks = clock_at c.loop-taken.clocks.items; now = c.loop-taken.now }) (driver c.args.book.now c.args.shares.now)
+    ends_stopped g.S.EpochStore.makes g.S.EpochStore.view g.S.EpochStore.waits (holding_of c.args.holds.now) at_first (record { held = harts_of c.loop-taken.held; clocks = clock_at c.loop-taken.clocks.items; now = c.loop-taken.now }) (driver c.args.book.now c.args.shares.now)
     (driver c.loop-taken.book c.loop-taken.shares) (driver c.step.new.book c.step.new.shares) c.loop-taken.schedule.items c.push.new.self.items c.in-Some.turn c.loop-taken.invariant.drives
-    (first_of c.loop-taken.clocks.items c.loop-taken.book.cores c.loop-taken.now (is_held_in c.held_cores-waiting.result) (held_in (loads_at c.args.holds.now) c.loop-taken.book (harts_of c.loop-taken.held)) c.in-Some.turn c.loop-taken.invariant.sound.count (same_held c.args.cores (length c.loop-taken.clocks.items) (is_held_in c.held_cores-waiting.result) (held_in (loads_at c.args.holds.now) c.loop-taken.book (harts_of c.loop-taken.held)) (c.loop-taken.invariant.sound.count ∙ (c.loop-taken.invariant.same.cores ∙ c.requires.book.1)) c.held_cores-waiting.ensures) c.in-Some.ensures) c.in-Ok-push.ensures.items
+    (first_of c.loop-taken.clocks.items c.loop-taken.book.cores c.loop-taken.now (is_held_in c.held_cores-waiting.result) (held_in (holding_of c.args.holds.now) c.loop-taken.book (harts_of c.loop-taken.held)) c.in-Some.turn c.loop-taken.invariant.sound.count (same_held c.args.cores (length c.loop-taken.clocks.items) (is_held_in c.held_cores-waiting.result) (held_in (holding_of c.args.holds.now) c.loop-taken.book (harts_of c.loop-taken.held)) (c.loop-taken.invariant.sound.count ∙ (c.loop-taken.invariant.same.cores ∙ c.requires.book.1)) c.held_cores-waiting.ensures) c.in-Some.ensures) c.in-Ok-push.ensures.items
     c.in_ok-answer.answer c.in-Stopped.field-0 c.in-Stopped.is c.in_ok-answer.ensures.turned
 
 pub returns-in-Stopped-clause-driven : goal.returns-in-Stopped-clause-driven
 returns-in-Stopped-clause-driven g c =
-    is_driven g.S.EpochStore.makes g.S.EpochStore.view g.S.EpochStore.waits (loads_at c.args.holds.now) at_first (driver c.args.book.now c.args.shares.now) (driver c.step.new.book c.step.new.shares) c.push.new.self.items (Ok None)
-    (ends_stopped g.S.EpochStore.makes g.S.EpochStore.view g.S.EpochStore.waits (loads_at c.args.holds.now) at_first (record { held = harts_of c.loop-taken.held; clocks = clock_at c.loop-taken.clocks.items; now = c.loop-taken.now }) (driver c.args.book.now c.args.shares.now)
+    is_driven g.S.EpochStore.makes g.S.EpochStore.view g.S.EpochStore.waits (holding_of c.args.holds.now) at_first (driver c.args.book.now c.args.shares.now) (driver c.step.new.book c.step.new.shares) c.push.new.self.items (Ok None)
+    (ends_stopped g.S.EpochStore.makes g.S.EpochStore.view g.S.EpochStore.waits (holding_of c.args.holds.now) at_first (record { held = harts_of c.loop-taken.held; clocks = clock_at c.loop-taken.clocks.items; now = c.loop-taken.now }) (driver c.args.book.now c.args.shares.now)
     (driver c.loop-taken.book c.loop-taken.shares) (driver c.step.new.book c.step.new.shares) c.loop-taken.schedule.items c.push.new.self.items c.in-Some.turn c.loop-taken.invariant.drives
-    (first_of c.loop-taken.clocks.items c.loop-taken.book.cores c.loop-taken.now (is_held_in c.held_cores-waiting.result) (held_in (loads_at c.args.holds.now) c.loop-taken.book (harts_of c.loop-taken.held)) c.in-Some.turn c.loop-taken.invariant.sound.count (same_held c.args.cores (length c.loop-taken.clocks.items) (is_held_in c.held_cores-waiting.result) (held_in (loads_at c.args.holds.now) c.loop-taken.book (harts_of c.loop-taken.held)) (c.loop-taken.invariant.sound.count ∙ (c.loop-taken.invariant.same.cores ∙ c.requires.book.1)) c.held_cores-waiting.ensures) c.in-Some.ensures) c.in-Ok-push.ensures.items
+    (first_of c.loop-taken.clocks.items c.loop-taken.book.cores c.loop-taken.now (is_held_in c.held_cores-waiting.result) (held_in (holding_of c.args.holds.now) c.loop-taken.book (harts_of c.loop-taken.held)) c.in-Some.turn c.loop-taken.invariant.sound.count (same_held c.args.cores (length c.loop-taken.clocks.items) (is_held_in c.held_cores-waiting.result) (held_in (holding_of c.args.holds.now) c.loop-taken.book (harts_of c.loop-taken.held)) (c.loop-taken.invariant.sound.count ∙ (c.loop-taken.invariant.same.cores ∙ c.requires.book.1)) c.held_cores-waiting.ensures) c.in-Some.ensures) c.in-Ok-push.ensures.items
     c.in_ok-answer.answer c.in-Stopped.field-0 c.in-Stopped.is c.in_ok-answer.ensures.turned)
 
 pub wake_all-requires-clause-at : goal.wake_all-requires-clause-at
 wake_all-requires-clause-at g c =
-    omega (arith, begins_by c.loop-taken._taken c.loop-taken.book.cores c.loop-taken.now c.loop-taken.clocks.items c.loop-taken.invariant.sound (held_in (loads_at c.args.holds.now) c.loop-taken.book (harts_of c.loop-taken.held)) c.in-Some.turn (first_of c.loop-taken.clocks.items c.loop-taken.book.cores c.loop-taken.now (is_held_in c.held_cores-waiting.result) (held_in (loads_at c.args.holds.now) c.loop-taken.book (harts_of c.loop-taken.held)) c.in-Some.turn c.loop-taken.invariant.sound.count (same_held c.args.cores (length c.loop-taken.clocks.items) (is_held_in c.held_cores-waiting.result) (held_in (loads_at c.args.holds.now) c.loop-taken.book (harts_of c.loop-taken.held)) (c.loop-taken.invariant.sound.count ∙ (c.loop-taken.invariant.same.cores ∙ c.requires.book.1)) c.held_cores-waiting.ensures) c.in-Some.ensures), c.loop-taken-test.true)
+    omega (arith, begins_by c.loop-taken._taken c.loop-taken.book.cores c.loop-taken.now c.loop-taken.clocks.items c.loop-taken.invariant.sound (held_in (holding_of c.args.holds.now) c.loop-taken.book (harts_of c.loop-taken.held)) c.in-Some.turn (first_of c.loop-taken.clocks.items c.loop-taken.book.cores c.loop-taken.now (is_held_in c.held_cores-waiting.result) (held_in (holding_of c.args.holds.now) c.loop-taken.book (harts_of c.loop-taken.held)) c.in-Some.turn c.loop-taken.invariant.sound.count (same_held c.args.cores (length c.loop-taken.clocks.items) (is_held_in c.held_cores-waiting.result) (held_in (holding_of c.args.holds.now) c.loop-taken.book (harts_of c.loop-taken.held)) (c.loop-taken.invariant.sound.count ∙ (c.loop-taken.invariant.same.cores ∙ c.requires.book.1)) c.held_cores-waiting.ensures) c.in-Some.ensures), c.loop-taken-test.true)
 
 pub wake_all-requires-clause-sound : goal.wake_all-requires-clause-sound
 wake_all-requires-clause-sound g c =
-    turned_all c.loop-taken._taken c.loop-taken.book.cores c.be_late.new.clocks.items c.in-Some.turn (lates_sound c.loop-taken._taken c.loop-taken.book.cores c.loop-taken.now c.loop-taken.clocks.items c.loop-taken.invariant.sound (held_in (loads_at c.args.holds.now) c.loop-taken.book (harts_of c.loop-taken.held)) c.in-Some.turn (first_of c.loop-taken.clocks.items c.loop-taken.book.cores c.loop-taken.now (is_held_in c.held_cores-waiting.result) (held_in (loads_at c.args.holds.now) c.loop-taken.book (harts_of c.loop-taken.held)) c.in-Some.turn c.loop-taken.invariant.sound.count (same_held c.args.cores (length c.loop-taken.clocks.items) (is_held_in c.held_cores-waiting.result) (held_in (loads_at c.args.holds.now) c.loop-taken.book (harts_of c.loop-taken.held)) (c.loop-taken.invariant.sound.count ∙ (c.loop-taken.invariant.same.cores ∙ c.requires.book.1)) c.held_cores-waiting.ensures) c.in-Some.ensures) c.be_late.new.clocks.items c.be_late.ensures.len c.be_late.ensures.each)
-    (late_turn c.loop-taken.now (dues (held_in (loads_at c.args.holds.now) c.loop-taken.book (harts_of c.loop-taken.held)) (clock_at c.loop-taken.clocks.items)) (clock_at c.loop-taken.clocks.items) (clock_at c.be_late.new.clocks.items) c.loop-taken.book.cores c.in-Some.turn (first_of c.loop-taken.clocks.items c.loop-taken.book.cores c.loop-taken.now (is_held_in c.held_cores-waiting.result) (held_in (loads_at c.args.holds.now) c.loop-taken.book (harts_of c.loop-taken.held)) c.in-Some.turn c.loop-taken.invariant.sound.count (same_held c.args.cores (length c.loop-taken.clocks.items) (is_held_in c.held_cores-waiting.result) (held_in (loads_at c.args.holds.now) c.loop-taken.book (harts_of c.loop-taken.held)) (c.loop-taken.invariant.sound.count ∙ (c.loop-taken.invariant.same.cores ∙ c.requires.book.1)) c.held_cores-waiting.ensures) c.in-Some.ensures) c.be_late.ensures.each) (not (c.totals.result.restarts == c.totals-restarts.result.restarts))
+    turned_all c.loop-taken._taken c.loop-taken.book.cores c.be_late.new.clocks.items c.in-Some.turn (lates_sound c.loop-taken._taken c.loop-taken.book.cores c.loop-taken.now c.loop-taken.clocks.items c.loop-taken.invariant.sound (held_in (holding_of c.args.holds.now) c.loop-taken.book (harts_of c.loop-taken.held)) c.in-Some.turn (first_of c.loop-taken.clocks.items c.loop-taken.book.cores c.loop-taken.now (is_held_in c.held_cores-waiting.result) (held_in (holding_of c.args.holds.now) c.loop-taken.book (harts_of c.loop-taken.held)) c.in-Some.turn c.loop-taken.invariant.sound.count (same_held c.args.cores (length c.loop-taken.clocks.items) (is_held_in c.held_cores-waiting.result) (held_in (holding_of c.args.holds.now) c.loop-taken.book (harts_of c.loop-taken.held)) (c.loop-taken.invariant.sound.count ∙ (c.loop-taken.invariant.same.cores ∙ c.requires.book.1)) c.held_cores-waiting.ensures) c.in-Some.ensures) c.be_late.new.clocks.items c.be_late.ensures.len c.be_late.ensures.each)
+    (late_turn c.loop-taken.now (dues (held_in (holding_of c.args.holds.now) c.loop-taken.book (harts_of c.loop-taken.held)) (clock_at c.loop-taken.clocks.items)) (clock_at c.loop-taken.clocks.items) (clock_at c.be_late.new.clocks.items) c.loop-taken.book.cores c.in-Some.turn (first_of c.loop-taken.clocks.items c.loop-taken.book.cores c.loop-taken.now (is_held_in c.held_cores-waiting.result) (held_in (holding_of c.args.holds.now) c.loop-taken.book (harts_of c.loop-taken.held)) c.in-Some.turn c.loop-taken.invariant.sound.count (same_held c.args.cores (length c.loop-taken.clocks.items) (is_held_in c.held_cores-waiting.result) (held_in (holding_of c.args.holds.now) c.loop-taken.book (harts_of c.loop-taken.held)) (c.loop-taken.invariant.sound.count ∙ (c.loop-taken.invariant.same.cores ∙ c.requires.book.1)) c.held_cores-waiting.ensures) c.in-Some.ensures) c.be_late.ensures.each) (not (c.totals.result.restarts == c.totals-restarts.result.restarts))
     c.executed_by-executed.result c.in_ok-answer.answer c.executed_by-executed.ensures.few c.set_clock.new.clocks.items c.set_clock.ensures.len
     (each_by c.be_late.new.clocks.items c.set_clock.new.clocks.items c.in-Some.turn.core c.answered-clock.result
     (answered c.in-Some.turn.at (not (c.totals.result.restarts == c.totals-restarts.result.restarts)) c.executed_by-executed.result c.in_ok-answer.answer (clock_at c.be_late.new.clocks.items c.in-Some.turn.core)) c.set_clock.ensures.each
@@ -267,14 +284,14 @@ loop-taken-preserved g c =
     (answered c.in-Some.turn.at (restarts (driver c.loop-taken.book c.loop-taken.shares) (driver c.step.new.book c.step.new.shares)) (executed_by c.loop-taken.book.image c.in_ok-answer.answer)
     c.in_ok-answer.answer (clock_at c.be_late.new.clocks.items k)) (clock_at c.be_late.new.clocks.items k)) =
     λ k below. subst (IsSound c.in-Some.turn.at) (turned_are (driver c.loop-taken.book c.loop-taken.shares) (driver c.step.new.book c.step.new.shares) (clock_at c.be_late.new.clocks.items) (clock_at c.set_clock.new.clocks.items) c.in-Some.turn c.in_ok-answer.answer (not (c.totals.result.restarts == c.totals-restarts.result.restarts)) c.executed_by-executed.result (same_restarts c.totals.result c.totals-restarts.result c.step.new.book.totals c.loop-taken.book.totals c.totals.ensures c.totals-restarts.ensures) (c.executed_by-executed.ensures.is ∙ ap (λ m. executed_by m c.in_ok-answer.answer) (sym (c.loop-taken.invariant.same.image ∙ c.requires.book.0))) (each_by c.be_late.new.clocks.items c.set_clock.new.clocks.items c.in-Some.turn.core c.answered-clock.result (answered c.in-Some.turn.at (not (c.totals.result.restarts == c.totals-restarts.result.restarts)) c.executed_by-executed.result c.in_ok-answer.answer (clock_at c.be_late.new.clocks.items c.in-Some.turn.core)) c.set_clock.ensures.each (c.answered-clock.ensures ∙ ap (answered c.in-Some.turn.at (not (c.totals.result.restarts == c.totals-restarts.result.restarts)) c.executed_by-executed.result c.in_ok-answer.answer) c.clock_of-clock.ensures)) k)
-    (turned_all c.loop-taken._taken c.loop-taken.book.cores c.be_late.new.clocks.items c.in-Some.turn (lates_sound c.loop-taken._taken c.loop-taken.book.cores c.loop-taken.now c.loop-taken.clocks.items c.loop-taken.invariant.sound (held_in (loads_at c.args.holds.now) c.loop-taken.book (harts_of c.loop-taken.held)) c.in-Some.turn (first_of c.loop-taken.clocks.items c.loop-taken.book.cores c.loop-taken.now (is_held_in c.held_cores-waiting.result) (held_in (loads_at c.args.holds.now) c.loop-taken.book (harts_of c.loop-taken.held)) c.in-Some.turn c.loop-taken.invariant.sound.count (same_held c.args.cores (length c.loop-taken.clocks.items) (is_held_in c.held_cores-waiting.result) (held_in (loads_at c.args.holds.now) c.loop-taken.book (harts_of c.loop-taken.held)) (c.loop-taken.invariant.sound.count ∙ (c.loop-taken.invariant.same.cores ∙ c.requires.book.1)) c.held_cores-waiting.ensures) c.in-Some.ensures) c.be_late.new.clocks.items c.be_late.ensures.len c.be_late.ensures.each)
-    (late_turn c.loop-taken.now (dues (held_in (loads_at c.args.holds.now) c.loop-taken.book (harts_of c.loop-taken.held)) (clock_at c.loop-taken.clocks.items)) (clock_at c.loop-taken.clocks.items) (clock_at c.be_late.new.clocks.items) c.loop-taken.book.cores c.in-Some.turn (first_of c.loop-taken.clocks.items c.loop-taken.book.cores c.loop-taken.now (is_held_in c.held_cores-waiting.result) (held_in (loads_at c.args.holds.now) c.loop-taken.book (harts_of c.loop-taken.held)) c.in-Some.turn c.loop-taken.invariant.sound.count (same_held c.args.cores (length c.loop-taken.clocks.items) (is_held_in c.held_cores-waiting.result) (held_in (loads_at c.args.holds.now) c.loop-taken.book (harts_of c.loop-taken.held)) (c.loop-taken.invariant.sound.count ∙ (c.loop-taken.invariant.same.cores ∙ c.requires.book.1)) c.held_cores-waiting.ensures) c.in-Some.ensures) c.be_late.ensures.each) (not (c.totals.result.restarts == c.totals-restarts.result.restarts)) c.executed_by-executed.result c.in_ok-answer.answer c.executed_by-executed.ensures.few c.set_clock.new.clocks.items c.set_clock.ensures.len (each_by c.be_late.new.clocks.items c.set_clock.new.clocks.items c.in-Some.turn.core c.answered-clock.result (answered c.in-Some.turn.at (not (c.totals.result.restarts == c.totals-restarts.result.restarts)) c.executed_by-executed.result c.in_ok-answer.answer (clock_at c.be_late.new.clocks.items c.in-Some.turn.core)) c.set_clock.ensures.each (c.answered-clock.ensures ∙ ap (answered c.in-Some.turn.at (not (c.totals.result.restarts == c.totals-restarts.result.restarts)) c.executed_by-executed.result c.in_ok-answer.answer) c.clock_of-clock.ensures)) k
+    (turned_all c.loop-taken._taken c.loop-taken.book.cores c.be_late.new.clocks.items c.in-Some.turn (lates_sound c.loop-taken._taken c.loop-taken.book.cores c.loop-taken.now c.loop-taken.clocks.items c.loop-taken.invariant.sound (held_in (holding_of c.args.holds.now) c.loop-taken.book (harts_of c.loop-taken.held)) c.in-Some.turn (first_of c.loop-taken.clocks.items c.loop-taken.book.cores c.loop-taken.now (is_held_in c.held_cores-waiting.result) (held_in (holding_of c.args.holds.now) c.loop-taken.book (harts_of c.loop-taken.held)) c.in-Some.turn c.loop-taken.invariant.sound.count (same_held c.args.cores (length c.loop-taken.clocks.items) (is_held_in c.held_cores-waiting.result) (held_in (holding_of c.args.holds.now) c.loop-taken.book (harts_of c.loop-taken.held)) (c.loop-taken.invariant.sound.count ∙ (c.loop-taken.invariant.same.cores ∙ c.requires.book.1)) c.held_cores-waiting.ensures) c.in-Some.ensures) c.be_late.new.clocks.items c.be_late.ensures.len c.be_late.ensures.each)
+    (late_turn c.loop-taken.now (dues (held_in (holding_of c.args.holds.now) c.loop-taken.book (harts_of c.loop-taken.held)) (clock_at c.loop-taken.clocks.items)) (clock_at c.loop-taken.clocks.items) (clock_at c.be_late.new.clocks.items) c.loop-taken.book.cores c.in-Some.turn (first_of c.loop-taken.clocks.items c.loop-taken.book.cores c.loop-taken.now (is_held_in c.held_cores-waiting.result) (held_in (holding_of c.args.holds.now) c.loop-taken.book (harts_of c.loop-taken.held)) c.in-Some.turn c.loop-taken.invariant.sound.count (same_held c.args.cores (length c.loop-taken.clocks.items) (is_held_in c.held_cores-waiting.result) (held_in (holding_of c.args.holds.now) c.loop-taken.book (harts_of c.loop-taken.held)) (c.loop-taken.invariant.sound.count ∙ (c.loop-taken.invariant.same.cores ∙ c.requires.book.1)) c.held_cores-waiting.ensures) c.in-Some.ensures) c.be_late.ensures.each) (not (c.totals.result.restarts == c.totals-restarts.result.restarts)) c.executed_by-executed.result c.in_ok-answer.answer c.executed_by-executed.ensures.few c.set_clock.new.clocks.items c.set_clock.ensures.len (each_by c.be_late.new.clocks.items c.set_clock.new.clocks.items c.in-Some.turn.core c.answered-clock.result (answered c.in-Some.turn.at (not (c.totals.result.restarts == c.totals-restarts.result.restarts)) c.executed_by-executed.result c.in_ok-answer.answer (clock_at c.be_late.new.clocks.items c.in-Some.turn.core)) c.set_clock.ensures.each (c.answered-clock.ensures ∙ ap (answered c.in-Some.turn.at (not (c.totals.result.restarts == c.totals-restarts.result.restarts)) c.executed_by-executed.result c.in_ok-answer.answer) c.clock_of-clock.ensures)) k
     (subst (λ n. k < n) (sym (c.set_clock.ensures.len ∙ (c.be_late.ensures.len ∙ c.loop-taken.invariant.sound.count))) below)) in
     let on : GoesOn (driver c.loop-taken.book c.loop-taken.shares) (driver c.step.new.book c.step.new.shares) (clock_at c.be_late.new.clocks.items) c.in-Some.turn c.in_ok-answer.answer c.loop-taken._taken c.loop-taken.book.cores c.match-answer.clocks.items = elim c.match-answer.branch [
       | in-Again w ↦ subst (λ (clocks : List Clock). GoesOn (driver c.loop-taken.book c.loop-taken.shares) (driver c.step.new.book c.step.new.shares) (clock_at c.be_late.new.clocks.items) c.in-Some.turn c.in_ok-answer.answer c.loop-taken._taken c.loop-taken.book.cores clocks)
           (sym (ap (λ v. v.items) w.clocks-is)) (record {
-            sound = turned_sound c.loop-taken._taken c.loop-taken.book.cores c.be_late.new.clocks.items c.in-Some.turn (lates_sound c.loop-taken._taken c.loop-taken.book.cores c.loop-taken.now c.loop-taken.clocks.items c.loop-taken.invariant.sound (held_in (loads_at c.args.holds.now) c.loop-taken.book (harts_of c.loop-taken.held)) c.in-Some.turn (first_of c.loop-taken.clocks.items c.loop-taken.book.cores c.loop-taken.now (is_held_in c.held_cores-waiting.result) (held_in (loads_at c.args.holds.now) c.loop-taken.book (harts_of c.loop-taken.held)) c.in-Some.turn c.loop-taken.invariant.sound.count (same_held c.args.cores (length c.loop-taken.clocks.items) (is_held_in c.held_cores-waiting.result) (held_in (loads_at c.args.holds.now) c.loop-taken.book (harts_of c.loop-taken.held)) (c.loop-taken.invariant.sound.count ∙ (c.loop-taken.invariant.same.cores ∙ c.requires.book.1)) c.held_cores-waiting.ensures) c.in-Some.ensures) c.be_late.new.clocks.items c.be_late.ensures.len c.be_late.ensures.each)
-                (late_turn c.loop-taken.now (dues (held_in (loads_at c.args.holds.now) c.loop-taken.book (harts_of c.loop-taken.held)) (clock_at c.loop-taken.clocks.items)) (clock_at c.loop-taken.clocks.items) (clock_at c.be_late.new.clocks.items) c.loop-taken.book.cores c.in-Some.turn (first_of c.loop-taken.clocks.items c.loop-taken.book.cores c.loop-taken.now (is_held_in c.held_cores-waiting.result) (held_in (loads_at c.args.holds.now) c.loop-taken.book (harts_of c.loop-taken.held)) c.in-Some.turn c.loop-taken.invariant.sound.count (same_held c.args.cores (length c.loop-taken.clocks.items) (is_held_in c.held_cores-waiting.result) (held_in (loads_at c.args.holds.now) c.loop-taken.book (harts_of c.loop-taken.held)) (c.loop-taken.invariant.sound.count ∙ (c.loop-taken.invariant.same.cores ∙ c.requires.book.1)) c.held_cores-waiting.ensures) c.in-Some.ensures) c.be_late.ensures.each) (not (c.totals.result.restarts == c.totals-restarts.result.restarts))
+            sound = turned_sound c.loop-taken._taken c.loop-taken.book.cores c.be_late.new.clocks.items c.in-Some.turn (lates_sound c.loop-taken._taken c.loop-taken.book.cores c.loop-taken.now c.loop-taken.clocks.items c.loop-taken.invariant.sound (held_in (holding_of c.args.holds.now) c.loop-taken.book (harts_of c.loop-taken.held)) c.in-Some.turn (first_of c.loop-taken.clocks.items c.loop-taken.book.cores c.loop-taken.now (is_held_in c.held_cores-waiting.result) (held_in (holding_of c.args.holds.now) c.loop-taken.book (harts_of c.loop-taken.held)) c.in-Some.turn c.loop-taken.invariant.sound.count (same_held c.args.cores (length c.loop-taken.clocks.items) (is_held_in c.held_cores-waiting.result) (held_in (holding_of c.args.holds.now) c.loop-taken.book (harts_of c.loop-taken.held)) (c.loop-taken.invariant.sound.count ∙ (c.loop-taken.invariant.same.cores ∙ c.requires.book.1)) c.held_cores-waiting.ensures) c.in-Some.ensures) c.be_late.new.clocks.items c.be_late.ensures.len c.be_late.ensures.each)
+                (late_turn c.loop-taken.now (dues (held_in (holding_of c.args.holds.now) c.loop-taken.book (harts_of c.loop-taken.held)) (clock_at c.loop-taken.clocks.items)) (clock_at c.loop-taken.clocks.items) (clock_at c.be_late.new.clocks.items) c.loop-taken.book.cores c.in-Some.turn (first_of c.loop-taken.clocks.items c.loop-taken.book.cores c.loop-taken.now (is_held_in c.held_cores-waiting.result) (held_in (holding_of c.args.holds.now) c.loop-taken.book (harts_of c.loop-taken.held)) c.in-Some.turn c.loop-taken.invariant.sound.count (same_held c.args.cores (length c.loop-taken.clocks.items) (is_held_in c.held_cores-waiting.result) (held_in (holding_of c.args.holds.now) c.loop-taken.book (harts_of c.loop-taken.held)) (c.loop-taken.invariant.sound.count ∙ (c.loop-taken.invariant.same.cores ∙ c.requires.book.1)) c.held_cores-waiting.ensures) c.in-Some.ensures) c.be_late.ensures.each) (not (c.totals.result.restarts == c.totals-restarts.result.restarts))
                 c.executed_by-executed.result c.in_ok-answer.answer c.executed_by-executed.ensures.few c.set_clock.new.clocks.items c.set_clock.ensures.len
                 (each_by c.be_late.new.clocks.items c.set_clock.new.clocks.items c.in-Some.turn.core c.answered-clock.result
                 (answered c.in-Some.turn.at (not (c.totals.result.restarts == c.totals-restarts.result.restarts)) c.executed_by-executed.result c.in_ok-answer.answer (clock_at c.be_late.new.clocks.items c.in-Some.turn.core)) c.set_clock.ensures.each
@@ -291,8 +308,8 @@ loop-taken-preserved g c =
           })
       | in_default-answer w ↦ subst (λ (clocks : List Clock). GoesOn (driver c.loop-taken.book c.loop-taken.shares) (driver c.step.new.book c.step.new.shares) (clock_at c.be_late.new.clocks.items) c.in-Some.turn c.in_ok-answer.answer c.loop-taken._taken c.loop-taken.book.cores clocks)
           (sym (ap (λ v. v.items) w.clocks-is)) (record {
-            sound = woken_all c.loop-taken._taken c.loop-taken.book.cores c.be_late.new.clocks.items c.in-Some.turn (lates_sound c.loop-taken._taken c.loop-taken.book.cores c.loop-taken.now c.loop-taken.clocks.items c.loop-taken.invariant.sound (held_in (loads_at c.args.holds.now) c.loop-taken.book (harts_of c.loop-taken.held)) c.in-Some.turn (first_of c.loop-taken.clocks.items c.loop-taken.book.cores c.loop-taken.now (is_held_in c.held_cores-waiting.result) (held_in (loads_at c.args.holds.now) c.loop-taken.book (harts_of c.loop-taken.held)) c.in-Some.turn c.loop-taken.invariant.sound.count (same_held c.args.cores (length c.loop-taken.clocks.items) (is_held_in c.held_cores-waiting.result) (held_in (loads_at c.args.holds.now) c.loop-taken.book (harts_of c.loop-taken.held)) (c.loop-taken.invariant.sound.count ∙ (c.loop-taken.invariant.same.cores ∙ c.requires.book.1)) c.held_cores-waiting.ensures) c.in-Some.ensures) c.be_late.new.clocks.items c.be_late.ensures.len c.be_late.ensures.each)
-                (late_turn c.loop-taken.now (dues (held_in (loads_at c.args.holds.now) c.loop-taken.book (harts_of c.loop-taken.held)) (clock_at c.loop-taken.clocks.items)) (clock_at c.loop-taken.clocks.items) (clock_at c.be_late.new.clocks.items) c.loop-taken.book.cores c.in-Some.turn (first_of c.loop-taken.clocks.items c.loop-taken.book.cores c.loop-taken.now (is_held_in c.held_cores-waiting.result) (held_in (loads_at c.args.holds.now) c.loop-taken.book (harts_of c.loop-taken.held)) c.in-Some.turn c.loop-taken.invariant.sound.count (same_held c.args.cores (length c.loop-taken.clocks.items) (is_held_in c.held_cores-waiting.result) (held_in (loads_at c.args.holds.now) c.loop-taken.book (harts_of c.loop-taken.held)) (c.loop-taken.invariant.sound.count ∙ (c.loop-taken.invariant.same.cores ∙ c.requires.book.1)) c.held_cores-waiting.ensures) c.in-Some.ensures) c.be_late.ensures.each) (not (c.totals.result.restarts == c.totals-restarts.result.restarts))
+            sound = woken_all c.loop-taken._taken c.loop-taken.book.cores c.be_late.new.clocks.items c.in-Some.turn (lates_sound c.loop-taken._taken c.loop-taken.book.cores c.loop-taken.now c.loop-taken.clocks.items c.loop-taken.invariant.sound (held_in (holding_of c.args.holds.now) c.loop-taken.book (harts_of c.loop-taken.held)) c.in-Some.turn (first_of c.loop-taken.clocks.items c.loop-taken.book.cores c.loop-taken.now (is_held_in c.held_cores-waiting.result) (held_in (holding_of c.args.holds.now) c.loop-taken.book (harts_of c.loop-taken.held)) c.in-Some.turn c.loop-taken.invariant.sound.count (same_held c.args.cores (length c.loop-taken.clocks.items) (is_held_in c.held_cores-waiting.result) (held_in (holding_of c.args.holds.now) c.loop-taken.book (harts_of c.loop-taken.held)) (c.loop-taken.invariant.sound.count ∙ (c.loop-taken.invariant.same.cores ∙ c.requires.book.1)) c.held_cores-waiting.ensures) c.in-Some.ensures) c.be_late.new.clocks.items c.be_late.ensures.len c.be_late.ensures.each)
+                (late_turn c.loop-taken.now (dues (held_in (holding_of c.args.holds.now) c.loop-taken.book (harts_of c.loop-taken.held)) (clock_at c.loop-taken.clocks.items)) (clock_at c.loop-taken.clocks.items) (clock_at c.be_late.new.clocks.items) c.loop-taken.book.cores c.in-Some.turn (first_of c.loop-taken.clocks.items c.loop-taken.book.cores c.loop-taken.now (is_held_in c.held_cores-waiting.result) (held_in (holding_of c.args.holds.now) c.loop-taken.book (harts_of c.loop-taken.held)) c.in-Some.turn c.loop-taken.invariant.sound.count (same_held c.args.cores (length c.loop-taken.clocks.items) (is_held_in c.held_cores-waiting.result) (held_in (holding_of c.args.holds.now) c.loop-taken.book (harts_of c.loop-taken.held)) (c.loop-taken.invariant.sound.count ∙ (c.loop-taken.invariant.same.cores ∙ c.requires.book.1)) c.held_cores-waiting.ensures) c.in-Some.ensures) c.be_late.ensures.each) (not (c.totals.result.restarts == c.totals-restarts.result.restarts))
                 c.executed_by-executed.result c.in_ok-answer.answer c.executed_by-executed.ensures.few c.set_clock.new.clocks.items c.set_clock.ensures.len
                 (each_by c.be_late.new.clocks.items c.set_clock.new.clocks.items c.in-Some.turn.core c.answered-clock.result
                 (answered c.in-Some.turn.at (not (c.totals.result.restarts == c.totals-restarts.result.restarts)) c.executed_by-executed.result c.in_ok-answer.answer (clock_at c.be_late.new.clocks.items c.in-Some.turn.core)) c.set_clock.ensures.each
@@ -312,61 +329,63 @@ loop-taken-preserved g c =
       held = c.step.ensures.held;
       shares = c.step.ensures.shares;
       sound = subst (λ n. AreSound (c.loop-taken._taken + 1) n c.in-Some.turn.at c.match-answer.clocks.items) (sym same.cores) on.sound;
-      drives = goes_on g.S.EpochStore.makes g.S.EpochStore.view g.S.EpochStore.waits (loads_at c.args.holds.now) at_first (record { held = harts_of c.loop-taken.held; clocks = clock_at c.loop-taken.clocks.items; now = c.loop-taken.now }) (driver c.args.book.now c.args.shares.now)
+      drives = goes_on g.S.EpochStore.makes g.S.EpochStore.view g.S.EpochStore.waits (holding_of c.args.holds.now) at_first (record { held = harts_of c.loop-taken.held; clocks = clock_at c.loop-taken.clocks.items; now = c.loop-taken.now }) (driver c.args.book.now c.args.shares.now)
           (driver c.loop-taken.book c.loop-taken.shares) (driver c.step.new.book c.step.new.shares) c.loop-taken.schedule.items c.push.new.self.items c.in-Some.turn c.loop-taken.invariant.drives
-          (first_of c.loop-taken.clocks.items c.loop-taken.book.cores c.loop-taken.now (is_held_in c.held_cores-waiting.result) (held_in (loads_at c.args.holds.now) c.loop-taken.book (harts_of c.loop-taken.held)) c.in-Some.turn c.loop-taken.invariant.sound.count (same_held c.args.cores (length c.loop-taken.clocks.items) (is_held_in c.held_cores-waiting.result) (held_in (loads_at c.args.holds.now) c.loop-taken.book (harts_of c.loop-taken.held)) (c.loop-taken.invariant.sound.count ∙ (c.loop-taken.invariant.same.cores ∙ c.requires.book.1)) c.held_cores-waiting.ensures) c.in-Some.ensures) c.in-Ok-push.ensures.items
+          (first_of c.loop-taken.clocks.items c.loop-taken.book.cores c.loop-taken.now (is_held_in c.held_cores-waiting.result) (held_in (holding_of c.args.holds.now) c.loop-taken.book (harts_of c.loop-taken.held)) c.in-Some.turn c.loop-taken.invariant.sound.count (same_held c.args.cores (length c.loop-taken.clocks.items) (is_held_in c.held_cores-waiting.result) (held_in (holding_of c.args.holds.now) c.loop-taken.book (harts_of c.loop-taken.held)) (c.loop-taken.invariant.sound.count ∙ (c.loop-taken.invariant.same.cores ∙ c.requires.book.1)) c.held_cores-waiting.ensures) c.in-Some.ensures) c.in-Ok-push.ensures.items
           c.in_ok-answer.answer (record { held = harts_of c.step.new.held; clocks = clock_at c.match-answer.clocks.items; now = c.in-Some.turn.at }) on.going on.unstopped c.in_ok-answer.ensures.harts (λ k. (on.are) k ∙ ap (λ (f : ℕ → Clock). clocks_after (driver c.loop-taken.book c.loop-taken.shares) (driver c.step.new.book c.step.new.shares) f c.in-Some.turn c.in_ok-answer.answer k) (fun_ext c.be_late.ensures.each)) refl
           c.in_ok-answer.ensures.turned;
       timed = λ fresh. timed_on (driver c.loop-taken.book c.loop-taken.shares) (driver c.step.new.book c.step.new.shares)
           (record { held = harts_of c.loop-taken.held; clocks = clock_at c.be_late.new.clocks.items; now = c.in-Some.turn.at }) c.in-Some.turn same
-          (late_turn c.loop-taken.now (dues (held_in (loads_at c.args.holds.now) c.loop-taken.book (harts_of c.loop-taken.held)) (clock_at c.loop-taken.clocks.items)) (clock_at c.loop-taken.clocks.items) (clock_at c.be_late.new.clocks.items) c.loop-taken.book.cores c.in-Some.turn (first_of c.loop-taken.clocks.items c.loop-taken.book.cores c.loop-taken.now (is_held_in c.held_cores-waiting.result) (held_in (loads_at c.args.holds.now) c.loop-taken.book (harts_of c.loop-taken.held)) c.in-Some.turn c.loop-taken.invariant.sound.count (same_held c.args.cores (length c.loop-taken.clocks.items) (is_held_in c.held_cores-waiting.result) (held_in (loads_at c.args.holds.now) c.loop-taken.book (harts_of c.loop-taken.held)) (c.loop-taken.invariant.sound.count ∙ (c.loop-taken.invariant.same.cores ∙ c.requires.book.1)) c.held_cores-waiting.ensures) c.in-Some.ensures) c.be_late.ensures.each) (late_timed c.loop-taken.book (record { held = harts_of c.loop-taken.held; clocks = clock_at c.loop-taken.clocks.items; now = c.loop-taken.now }) (clock_at c.be_late.new.clocks.items) c.in-Some.turn (was_due c.loop-taken._taken c.loop-taken.book.cores c.loop-taken.now c.loop-taken.clocks.items c.loop-taken.invariant.sound (held_in (loads_at c.args.holds.now) c.loop-taken.book (harts_of c.loop-taken.held)) c.in-Some.turn (first_of c.loop-taken.clocks.items c.loop-taken.book.cores c.loop-taken.now (is_held_in c.held_cores-waiting.result) (held_in (loads_at c.args.holds.now) c.loop-taken.book (harts_of c.loop-taken.held)) c.in-Some.turn c.loop-taken.invariant.sound.count (same_held c.args.cores (length c.loop-taken.clocks.items) (is_held_in c.held_cores-waiting.result) (held_in (loads_at c.args.holds.now) c.loop-taken.book (harts_of c.loop-taken.held)) (c.loop-taken.invariant.sound.count ∙ (c.loop-taken.invariant.same.cores ∙ c.requires.book.1)) c.held_cores-waiting.ensures) c.in-Some.ensures)) (due_before c.loop-taken._taken c.loop-taken.book.cores c.loop-taken.now c.loop-taken.clocks.items c.loop-taken.invariant.sound (held_in (loads_at c.args.holds.now) c.loop-taken.book (harts_of c.loop-taken.held)) c.in-Some.turn (first_of c.loop-taken.clocks.items c.loop-taken.book.cores c.loop-taken.now (is_held_in c.held_cores-waiting.result) (held_in (loads_at c.args.holds.now) c.loop-taken.book (harts_of c.loop-taken.held)) c.in-Some.turn c.loop-taken.invariant.sound.count (same_held c.args.cores (length c.loop-taken.clocks.items) (is_held_in c.held_cores-waiting.result) (held_in (loads_at c.args.holds.now) c.loop-taken.book (harts_of c.loop-taken.held)) (c.loop-taken.invariant.sound.count ∙ (c.loop-taken.invariant.same.cores ∙ c.requires.book.1)) c.held_cores-waiting.ensures) c.in-Some.ensures)) c.be_late.ensures.each (first_of c.loop-taken.clocks.items c.loop-taken.book.cores c.loop-taken.now (is_held_in c.held_cores-waiting.result) (held_in (loads_at c.args.holds.now) c.loop-taken.book (harts_of c.loop-taken.held)) c.in-Some.turn c.loop-taken.invariant.sound.count (same_held c.args.cores (length c.loop-taken.clocks.items) (is_held_in c.held_cores-waiting.result) (held_in (loads_at c.args.holds.now) c.loop-taken.book (harts_of c.loop-taken.held)) (c.loop-taken.invariant.sound.count ∙ (c.loop-taken.invariant.same.cores ∙ c.requires.book.1)) c.held_cores-waiting.ensures) c.in-Some.ensures).core (c.loop-taken.invariant.timed fresh))
+          (late_turn c.loop-taken.now (dues (held_in (holding_of c.args.holds.now) c.loop-taken.book (harts_of c.loop-taken.held)) (clock_at c.loop-taken.clocks.items)) (clock_at c.loop-taken.clocks.items) (clock_at c.be_late.new.clocks.items) c.loop-taken.book.cores c.in-Some.turn (first_of c.loop-taken.clocks.items c.loop-taken.book.cores c.loop-taken.now (is_held_in c.held_cores-waiting.result) (held_in (holding_of c.args.holds.now) c.loop-taken.book (harts_of c.loop-taken.held)) c.in-Some.turn c.loop-taken.invariant.sound.count (same_held c.args.cores (length c.loop-taken.clocks.items) (is_held_in c.held_cores-waiting.result) (held_in (holding_of c.args.holds.now) c.loop-taken.book (harts_of c.loop-taken.held)) (c.loop-taken.invariant.sound.count ∙ (c.loop-taken.invariant.same.cores ∙ c.requires.book.1)) c.held_cores-waiting.ensures) c.in-Some.ensures) c.be_late.ensures.each) (late_timed c.loop-taken.book (record { held = harts_of c.loop-taken.held; clocks = clock_at c.loop-taken.clocks.items; now = c.loop-taken.now }) (clock_at c.be_late.new.clocks.items) c.in-Some.turn (was_due c.loop-taken._taken c.loop-taken.book.cores c.loop-taken.now c.loop-taken.clocks.items c.loop-taken.invariant.sound (held_in (holding_of c.args.holds.now) c.loop-taken.book (harts_of c.loop-taken.held)) c.in-Some.turn (first_of c.loop-taken.clocks.items c.loop-taken.book.cores c.loop-taken.now (is_held_in c.held_cores-waiting.result) (held_in (holding_of c.args.holds.now) c.loop-taken.book (harts_of c.loop-taken.held)) c.in-Some.turn c.loop-taken.invariant.sound.count (same_held c.args.cores (length c.loop-taken.clocks.items) (is_held_in c.held_cores-waiting.result) (held_in (holding_of c.args.holds.now) c.loop-taken.book (harts_of c.loop-taken.held)) (c.loop-taken.invariant.sound.count ∙ (c.loop-taken.invariant.same.cores ∙ c.requires.book.1)) c.held_cores-waiting.ensures) c.in-Some.ensures)) (due_before c.loop-taken._taken c.loop-taken.book.cores c.loop-taken.now c.loop-taken.clocks.items c.loop-taken.invariant.sound (held_in (holding_of c.args.holds.now) c.loop-taken.book (harts_of c.loop-taken.held)) c.in-Some.turn (first_of c.loop-taken.clocks.items c.loop-taken.book.cores c.loop-taken.now (is_held_in c.held_cores-waiting.result) (held_in (holding_of c.args.holds.now) c.loop-taken.book (harts_of c.loop-taken.held)) c.in-Some.turn c.loop-taken.invariant.sound.count (same_held c.args.cores (length c.loop-taken.clocks.items) (is_held_in c.held_cores-waiting.result) (held_in (holding_of c.args.holds.now) c.loop-taken.book (harts_of c.loop-taken.held)) (c.loop-taken.invariant.sound.count ∙ (c.loop-taken.invariant.same.cores ∙ c.requires.book.1)) c.held_cores-waiting.ensures) c.in-Some.ensures)) c.be_late.ensures.each (first_of c.loop-taken.clocks.items c.loop-taken.book.cores c.loop-taken.now (is_held_in c.held_cores-waiting.result) (held_in (holding_of c.args.holds.now) c.loop-taken.book (harts_of c.loop-taken.held)) c.in-Some.turn c.loop-taken.invariant.sound.count (same_held c.args.cores (length c.loop-taken.clocks.items) (is_held_in c.held_cores-waiting.result) (held_in (holding_of c.args.holds.now) c.loop-taken.book (harts_of c.loop-taken.held)) (c.loop-taken.invariant.sound.count ∙ (c.loop-taken.invariant.same.cores ∙ c.requires.book.1)) c.held_cores-waiting.ensures) c.in-Some.ensures).core (c.loop-taken.invariant.timed fresh))
           c.in_ok-answer.answer (record { held = harts_of c.step.new.held; clocks = clock_at c.match-answer.clocks.items; now = c.in-Some.turn.at }) c.in_ok-answer.ensures.leads on.going on.unstopped
           c.in_ok-answer.ensures.harts on.are refl on.turned;
-      lasting = λ fresh. let timed = (late_timed c.loop-taken.book (record { held = harts_of c.loop-taken.held; clocks = clock_at c.loop-taken.clocks.items; now = c.loop-taken.now }) (clock_at c.be_late.new.clocks.items) c.in-Some.turn (was_due c.loop-taken._taken c.loop-taken.book.cores c.loop-taken.now c.loop-taken.clocks.items c.loop-taken.invariant.sound (held_in (loads_at c.args.holds.now) c.loop-taken.book (harts_of c.loop-taken.held)) c.in-Some.turn (first_of c.loop-taken.clocks.items c.loop-taken.book.cores c.loop-taken.now (is_held_in c.held_cores-waiting.result) (held_in (loads_at c.args.holds.now) c.loop-taken.book (harts_of c.loop-taken.held)) c.in-Some.turn c.loop-taken.invariant.sound.count (same_held c.args.cores (length c.loop-taken.clocks.items) (is_held_in c.held_cores-waiting.result) (held_in (loads_at c.args.holds.now) c.loop-taken.book (harts_of c.loop-taken.held)) (c.loop-taken.invariant.sound.count ∙ (c.loop-taken.invariant.same.cores ∙ c.requires.book.1)) c.held_cores-waiting.ensures) c.in-Some.ensures)) (due_before c.loop-taken._taken c.loop-taken.book.cores c.loop-taken.now c.loop-taken.clocks.items c.loop-taken.invariant.sound (held_in (loads_at c.args.holds.now) c.loop-taken.book (harts_of c.loop-taken.held)) c.in-Some.turn (first_of c.loop-taken.clocks.items c.loop-taken.book.cores c.loop-taken.now (is_held_in c.held_cores-waiting.result) (held_in (loads_at c.args.holds.now) c.loop-taken.book (harts_of c.loop-taken.held)) c.in-Some.turn c.loop-taken.invariant.sound.count (same_held c.args.cores (length c.loop-taken.clocks.items) (is_held_in c.held_cores-waiting.result) (held_in (loads_at c.args.holds.now) c.loop-taken.book (harts_of c.loop-taken.held)) (c.loop-taken.invariant.sound.count ∙ (c.loop-taken.invariant.same.cores ∙ c.requires.book.1)) c.held_cores-waiting.ensures) c.in-Some.ensures)) c.be_late.ensures.each (first_of c.loop-taken.clocks.items c.loop-taken.book.cores c.loop-taken.now (is_held_in c.held_cores-waiting.result) (held_in (loads_at c.args.holds.now) c.loop-taken.book (harts_of c.loop-taken.held)) c.in-Some.turn c.loop-taken.invariant.sound.count (same_held c.args.cores (length c.loop-taken.clocks.items) (is_held_in c.held_cores-waiting.result) (held_in (loads_at c.args.holds.now) c.loop-taken.book (harts_of c.loop-taken.held)) (c.loop-taken.invariant.sound.count ∙ (c.loop-taken.invariant.same.cores ∙ c.requires.book.1)) c.held_cores-waiting.ensures) c.in-Some.ensures).core (c.loop-taken.invariant.timed fresh)) in
+      lasting = λ fresh. let timed = (late_timed c.loop-taken.book (record { held = harts_of c.loop-taken.held; clocks = clock_at c.loop-taken.clocks.items; now = c.loop-taken.now }) (clock_at c.be_late.new.clocks.items) c.in-Some.turn (was_due c.loop-taken._taken c.loop-taken.book.cores c.loop-taken.now c.loop-taken.clocks.items c.loop-taken.invariant.sound (held_in (holding_of c.args.holds.now) c.loop-taken.book (harts_of c.loop-taken.held)) c.in-Some.turn (first_of c.loop-taken.clocks.items c.loop-taken.book.cores c.loop-taken.now (is_held_in c.held_cores-waiting.result) (held_in (holding_of c.args.holds.now) c.loop-taken.book (harts_of c.loop-taken.held)) c.in-Some.turn c.loop-taken.invariant.sound.count (same_held c.args.cores (length c.loop-taken.clocks.items) (is_held_in c.held_cores-waiting.result) (held_in (holding_of c.args.holds.now) c.loop-taken.book (harts_of c.loop-taken.held)) (c.loop-taken.invariant.sound.count ∙ (c.loop-taken.invariant.same.cores ∙ c.requires.book.1)) c.held_cores-waiting.ensures) c.in-Some.ensures)) (due_before c.loop-taken._taken c.loop-taken.book.cores c.loop-taken.now c.loop-taken.clocks.items c.loop-taken.invariant.sound (held_in (holding_of c.args.holds.now) c.loop-taken.book (harts_of c.loop-taken.held)) c.in-Some.turn (first_of c.loop-taken.clocks.items c.loop-taken.book.cores c.loop-taken.now (is_held_in c.held_cores-waiting.result) (held_in (holding_of c.args.holds.now) c.loop-taken.book (harts_of c.loop-taken.held)) c.in-Some.turn c.loop-taken.invariant.sound.count (same_held c.args.cores (length c.loop-taken.clocks.items) (is_held_in c.held_cores-waiting.result) (held_in (holding_of c.args.holds.now) c.loop-taken.book (harts_of c.loop-taken.held)) (c.loop-taken.invariant.sound.count ∙ (c.loop-taken.invariant.same.cores ∙ c.requires.book.1)) c.held_cores-waiting.ensures) c.in-Some.ensures)) c.be_late.ensures.each (first_of c.loop-taken.clocks.items c.loop-taken.book.cores c.loop-taken.now (is_held_in c.held_cores-waiting.result) (held_in (holding_of c.args.holds.now) c.loop-taken.book (harts_of c.loop-taken.held)) c.in-Some.turn c.loop-taken.invariant.sound.count (same_held c.args.cores (length c.loop-taken.clocks.items) (is_held_in c.held_cores-waiting.result) (held_in (holding_of c.args.holds.now) c.loop-taken.book (harts_of c.loop-taken.held)) (c.loop-taken.invariant.sound.count ∙ (c.loop-taken.invariant.same.cores ∙ c.requires.book.1)) c.held_cores-waiting.ensures) c.in-Some.ensures).core (c.loop-taken.invariant.timed fresh)) in
           lasts_on (driver c.loop-taken.book c.loop-taken.shares) (driver c.step.new.book c.step.new.shares)
           (record { held = harts_of c.loop-taken.held; clocks = clock_at c.be_late.new.clocks.items; now = c.in-Some.turn.at }) c.in-Some.turn same
-          (late_turn c.loop-taken.now (dues (held_in (loads_at c.args.holds.now) c.loop-taken.book (harts_of c.loop-taken.held)) (clock_at c.loop-taken.clocks.items)) (clock_at c.loop-taken.clocks.items) (clock_at c.be_late.new.clocks.items) c.loop-taken.book.cores c.in-Some.turn (first_of c.loop-taken.clocks.items c.loop-taken.book.cores c.loop-taken.now (is_held_in c.held_cores-waiting.result) (held_in (loads_at c.args.holds.now) c.loop-taken.book (harts_of c.loop-taken.held)) c.in-Some.turn c.loop-taken.invariant.sound.count (same_held c.args.cores (length c.loop-taken.clocks.items) (is_held_in c.held_cores-waiting.result) (held_in (loads_at c.args.holds.now) c.loop-taken.book (harts_of c.loop-taken.held)) (c.loop-taken.invariant.sound.count ∙ (c.loop-taken.invariant.same.cores ∙ c.requires.book.1)) c.held_cores-waiting.ensures) c.in-Some.ensures) c.be_late.ensures.each) c.loop-taken.invariant.sound.few
+          (late_turn c.loop-taken.now (dues (held_in (holding_of c.args.holds.now) c.loop-taken.book (harts_of c.loop-taken.held)) (clock_at c.loop-taken.clocks.items)) (clock_at c.loop-taken.clocks.items) (clock_at c.be_late.new.clocks.items) c.loop-taken.book.cores c.in-Some.turn (first_of c.loop-taken.clocks.items c.loop-taken.book.cores c.loop-taken.now (is_held_in c.held_cores-waiting.result) (held_in (holding_of c.args.holds.now) c.loop-taken.book (harts_of c.loop-taken.held)) c.in-Some.turn c.loop-taken.invariant.sound.count (same_held c.args.cores (length c.loop-taken.clocks.items) (is_held_in c.held_cores-waiting.result) (held_in (holding_of c.args.holds.now) c.loop-taken.book (harts_of c.loop-taken.held)) (c.loop-taken.invariant.sound.count ∙ (c.loop-taken.invariant.same.cores ∙ c.requires.book.1)) c.held_cores-waiting.ensures) c.in-Some.ensures) c.be_late.ensures.each) c.loop-taken.invariant.sound.few
           c.in_ok-answer.answer (clock_at c.match-answer.clocks.items) c.loop-taken._taken timed.0 c.in_ok-answer.ensures.leads on.going on.unstopped on.are timed.1 timed.2
-          (late_lasts c.loop-taken.book (clock_at c.loop-taken.clocks.items) (clock_at c.be_late.new.clocks.items) c.loop-taken._taken c.in-Some.turn (was_due c.loop-taken._taken c.loop-taken.book.cores c.loop-taken.now c.loop-taken.clocks.items c.loop-taken.invariant.sound (held_in (loads_at c.args.holds.now) c.loop-taken.book (harts_of c.loop-taken.held)) c.in-Some.turn (first_of c.loop-taken.clocks.items c.loop-taken.book.cores c.loop-taken.now (is_held_in c.held_cores-waiting.result) (held_in (loads_at c.args.holds.now) c.loop-taken.book (harts_of c.loop-taken.held)) c.in-Some.turn c.loop-taken.invariant.sound.count (same_held c.args.cores (length c.loop-taken.clocks.items) (is_held_in c.held_cores-waiting.result) (held_in (loads_at c.args.holds.now) c.loop-taken.book (harts_of c.loop-taken.held)) (c.loop-taken.invariant.sound.count ∙ (c.loop-taken.invariant.same.cores ∙ c.requires.book.1)) c.held_cores-waiting.ensures) c.in-Some.ensures)) c.be_late.ensures.each (c.loop-taken.invariant.lasting fresh));
+          (late_lasts c.loop-taken.book (clock_at c.loop-taken.clocks.items) (clock_at c.be_late.new.clocks.items) c.loop-taken._taken c.in-Some.turn (was_due c.loop-taken._taken c.loop-taken.book.cores c.loop-taken.now c.loop-taken.clocks.items c.loop-taken.invariant.sound (held_in (holding_of c.args.holds.now) c.loop-taken.book (harts_of c.loop-taken.held)) c.in-Some.turn (first_of c.loop-taken.clocks.items c.loop-taken.book.cores c.loop-taken.now (is_held_in c.held_cores-waiting.result) (held_in (holding_of c.args.holds.now) c.loop-taken.book (harts_of c.loop-taken.held)) c.in-Some.turn c.loop-taken.invariant.sound.count (same_held c.args.cores (length c.loop-taken.clocks.items) (is_held_in c.held_cores-waiting.result) (held_in (holding_of c.args.holds.now) c.loop-taken.book (harts_of c.loop-taken.held)) (c.loop-taken.invariant.sound.count ∙ (c.loop-taken.invariant.same.cores ∙ c.requires.book.1)) c.held_cores-waiting.ensures) c.in-Some.ensures)) c.be_late.ensures.each (c.loop-taken.invariant.lasting fresh));
       seats = c.note_from-in-loop-taken.ensures;
+      count = c.keep_from-in-loop-taken.ensures.cores ∙ (c.loop-taken.invariant.count ∙ sym same.cores);
+      owns = c.in-Ok-keep_from-2.ensures.owns;
       few = c.step.ensures.leads.few;
       stopped = c.step.ensures.leads.stopped ∙ c.loop-taken.invariant.stopped;
       busy = λ fresh one. let was = sym same.cores ∙ one in
           busy_on (driver c.loop-taken.book c.loop-taken.shares) (driver c.step.new.book c.step.new.shares)
           (record { held = harts_of c.loop-taken.held; clocks = clock_at c.be_late.new.clocks.items; now = c.in-Some.turn.at }) c.in-Some.turn same
-          (late_turn c.loop-taken.now (dues (held_in (loads_at c.args.holds.now) c.loop-taken.book (harts_of c.loop-taken.held)) (clock_at c.loop-taken.clocks.items)) (clock_at c.loop-taken.clocks.items) (clock_at c.be_late.new.clocks.items) c.loop-taken.book.cores c.in-Some.turn (first_of c.loop-taken.clocks.items c.loop-taken.book.cores c.loop-taken.now (is_held_in c.held_cores-waiting.result) (held_in (loads_at c.args.holds.now) c.loop-taken.book (harts_of c.loop-taken.held)) c.in-Some.turn c.loop-taken.invariant.sound.count (same_held c.args.cores (length c.loop-taken.clocks.items) (is_held_in c.held_cores-waiting.result) (held_in (loads_at c.args.holds.now) c.loop-taken.book (harts_of c.loop-taken.held)) (c.loop-taken.invariant.sound.count ∙ (c.loop-taken.invariant.same.cores ∙ c.requires.book.1)) c.held_cores-waiting.ensures) c.in-Some.ensures) c.be_late.ensures.each) (late_timed c.loop-taken.book (record { held = harts_of c.loop-taken.held; clocks = clock_at c.loop-taken.clocks.items; now = c.loop-taken.now }) (clock_at c.be_late.new.clocks.items) c.in-Some.turn (was_due c.loop-taken._taken c.loop-taken.book.cores c.loop-taken.now c.loop-taken.clocks.items c.loop-taken.invariant.sound (held_in (loads_at c.args.holds.now) c.loop-taken.book (harts_of c.loop-taken.held)) c.in-Some.turn (first_of c.loop-taken.clocks.items c.loop-taken.book.cores c.loop-taken.now (is_held_in c.held_cores-waiting.result) (held_in (loads_at c.args.holds.now) c.loop-taken.book (harts_of c.loop-taken.held)) c.in-Some.turn c.loop-taken.invariant.sound.count (same_held c.args.cores (length c.loop-taken.clocks.items) (is_held_in c.held_cores-waiting.result) (held_in (loads_at c.args.holds.now) c.loop-taken.book (harts_of c.loop-taken.held)) (c.loop-taken.invariant.sound.count ∙ (c.loop-taken.invariant.same.cores ∙ c.requires.book.1)) c.held_cores-waiting.ensures) c.in-Some.ensures)) (due_before c.loop-taken._taken c.loop-taken.book.cores c.loop-taken.now c.loop-taken.clocks.items c.loop-taken.invariant.sound (held_in (loads_at c.args.holds.now) c.loop-taken.book (harts_of c.loop-taken.held)) c.in-Some.turn (first_of c.loop-taken.clocks.items c.loop-taken.book.cores c.loop-taken.now (is_held_in c.held_cores-waiting.result) (held_in (loads_at c.args.holds.now) c.loop-taken.book (harts_of c.loop-taken.held)) c.in-Some.turn c.loop-taken.invariant.sound.count (same_held c.args.cores (length c.loop-taken.clocks.items) (is_held_in c.held_cores-waiting.result) (held_in (loads_at c.args.holds.now) c.loop-taken.book (harts_of c.loop-taken.held)) (c.loop-taken.invariant.sound.count ∙ (c.loop-taken.invariant.same.cores ∙ c.requires.book.1)) c.held_cores-waiting.ensures) c.in-Some.ensures)) c.be_late.ensures.each (first_of c.loop-taken.clocks.items c.loop-taken.book.cores c.loop-taken.now (is_held_in c.held_cores-waiting.result) (held_in (loads_at c.args.holds.now) c.loop-taken.book (harts_of c.loop-taken.held)) c.in-Some.turn c.loop-taken.invariant.sound.count (same_held c.args.cores (length c.loop-taken.clocks.items) (is_held_in c.held_cores-waiting.result) (held_in (loads_at c.args.holds.now) c.loop-taken.book (harts_of c.loop-taken.held)) (c.loop-taken.invariant.sound.count ∙ (c.loop-taken.invariant.same.cores ∙ c.requires.book.1)) c.held_cores-waiting.ensures) c.in-Some.ensures).core (c.loop-taken.invariant.timed fresh))
+          (late_turn c.loop-taken.now (dues (held_in (holding_of c.args.holds.now) c.loop-taken.book (harts_of c.loop-taken.held)) (clock_at c.loop-taken.clocks.items)) (clock_at c.loop-taken.clocks.items) (clock_at c.be_late.new.clocks.items) c.loop-taken.book.cores c.in-Some.turn (first_of c.loop-taken.clocks.items c.loop-taken.book.cores c.loop-taken.now (is_held_in c.held_cores-waiting.result) (held_in (holding_of c.args.holds.now) c.loop-taken.book (harts_of c.loop-taken.held)) c.in-Some.turn c.loop-taken.invariant.sound.count (same_held c.args.cores (length c.loop-taken.clocks.items) (is_held_in c.held_cores-waiting.result) (held_in (holding_of c.args.holds.now) c.loop-taken.book (harts_of c.loop-taken.held)) (c.loop-taken.invariant.sound.count ∙ (c.loop-taken.invariant.same.cores ∙ c.requires.book.1)) c.held_cores-waiting.ensures) c.in-Some.ensures) c.be_late.ensures.each) (late_timed c.loop-taken.book (record { held = harts_of c.loop-taken.held; clocks = clock_at c.loop-taken.clocks.items; now = c.loop-taken.now }) (clock_at c.be_late.new.clocks.items) c.in-Some.turn (was_due c.loop-taken._taken c.loop-taken.book.cores c.loop-taken.now c.loop-taken.clocks.items c.loop-taken.invariant.sound (held_in (holding_of c.args.holds.now) c.loop-taken.book (harts_of c.loop-taken.held)) c.in-Some.turn (first_of c.loop-taken.clocks.items c.loop-taken.book.cores c.loop-taken.now (is_held_in c.held_cores-waiting.result) (held_in (holding_of c.args.holds.now) c.loop-taken.book (harts_of c.loop-taken.held)) c.in-Some.turn c.loop-taken.invariant.sound.count (same_held c.args.cores (length c.loop-taken.clocks.items) (is_held_in c.held_cores-waiting.result) (held_in (holding_of c.args.holds.now) c.loop-taken.book (harts_of c.loop-taken.held)) (c.loop-taken.invariant.sound.count ∙ (c.loop-taken.invariant.same.cores ∙ c.requires.book.1)) c.held_cores-waiting.ensures) c.in-Some.ensures)) (due_before c.loop-taken._taken c.loop-taken.book.cores c.loop-taken.now c.loop-taken.clocks.items c.loop-taken.invariant.sound (held_in (holding_of c.args.holds.now) c.loop-taken.book (harts_of c.loop-taken.held)) c.in-Some.turn (first_of c.loop-taken.clocks.items c.loop-taken.book.cores c.loop-taken.now (is_held_in c.held_cores-waiting.result) (held_in (holding_of c.args.holds.now) c.loop-taken.book (harts_of c.loop-taken.held)) c.in-Some.turn c.loop-taken.invariant.sound.count (same_held c.args.cores (length c.loop-taken.clocks.items) (is_held_in c.held_cores-waiting.result) (held_in (holding_of c.args.holds.now) c.loop-taken.book (harts_of c.loop-taken.held)) (c.loop-taken.invariant.sound.count ∙ (c.loop-taken.invariant.same.cores ∙ c.requires.book.1)) c.held_cores-waiting.ensures) c.in-Some.ensures)) c.be_late.ensures.each (first_of c.loop-taken.clocks.items c.loop-taken.book.cores c.loop-taken.now (is_held_in c.held_cores-waiting.result) (held_in (holding_of c.args.holds.now) c.loop-taken.book (harts_of c.loop-taken.held)) c.in-Some.turn c.loop-taken.invariant.sound.count (same_held c.args.cores (length c.loop-taken.clocks.items) (is_held_in c.held_cores-waiting.result) (held_in (holding_of c.args.holds.now) c.loop-taken.book (harts_of c.loop-taken.held)) (c.loop-taken.invariant.sound.count ∙ (c.loop-taken.invariant.same.cores ∙ c.requires.book.1)) c.held_cores-waiting.ensures) c.in-Some.ensures).core (c.loop-taken.invariant.timed fresh))
           c.in_ok-answer.answer (record { held = harts_of c.step.new.held; clocks = clock_at c.match-answer.clocks.items; now = c.in-Some.turn.at }) c.in_ok-answer.ensures.leads on.going on.are
           (the_first c.in-Some.turn.core c.loop-taken.book.cores
-          (late_turn c.loop-taken.now (dues (held_in (loads_at c.args.holds.now) c.loop-taken.book (harts_of c.loop-taken.held)) (clock_at c.loop-taken.clocks.items)) (clock_at c.loop-taken.clocks.items) (clock_at c.be_late.new.clocks.items) c.loop-taken.book.cores c.in-Some.turn (first_of c.loop-taken.clocks.items c.loop-taken.book.cores c.loop-taken.now (is_held_in c.held_cores-waiting.result) (held_in (loads_at c.args.holds.now) c.loop-taken.book (harts_of c.loop-taken.held)) c.in-Some.turn c.loop-taken.invariant.sound.count (same_held c.args.cores (length c.loop-taken.clocks.items) (is_held_in c.held_cores-waiting.result) (held_in (loads_at c.args.holds.now) c.loop-taken.book (harts_of c.loop-taken.held)) (c.loop-taken.invariant.sound.count ∙ (c.loop-taken.invariant.same.cores ∙ c.requires.book.1)) c.held_cores-waiting.ensures) c.in-Some.ensures) c.be_late.ensures.each).core was) (late_never_idle c.loop-taken.book.image c.loop-taken.book.cores (c.loop-taken.invariant.timed fresh).0 (record { held = harts_of c.loop-taken.held; clocks = clock_at c.loop-taken.clocks.items; now = c.loop-taken.now }) (clock_at c.be_late.new.clocks.items) c.in-Some.turn (was_due c.loop-taken._taken c.loop-taken.book.cores c.loop-taken.now c.loop-taken.clocks.items c.loop-taken.invariant.sound (held_in (loads_at c.args.holds.now) c.loop-taken.book (harts_of c.loop-taken.held)) c.in-Some.turn (first_of c.loop-taken.clocks.items c.loop-taken.book.cores c.loop-taken.now (is_held_in c.held_cores-waiting.result) (held_in (loads_at c.args.holds.now) c.loop-taken.book (harts_of c.loop-taken.held)) c.in-Some.turn c.loop-taken.invariant.sound.count (same_held c.args.cores (length c.loop-taken.clocks.items) (is_held_in c.held_cores-waiting.result) (held_in (loads_at c.args.holds.now) c.loop-taken.book (harts_of c.loop-taken.held)) (c.loop-taken.invariant.sound.count ∙ (c.loop-taken.invariant.same.cores ∙ c.requires.book.1)) c.held_cores-waiting.ensures) c.in-Some.ensures)) (due_before c.loop-taken._taken c.loop-taken.book.cores c.loop-taken.now c.loop-taken.clocks.items c.loop-taken.invariant.sound (held_in (loads_at c.args.holds.now) c.loop-taken.book (harts_of c.loop-taken.held)) c.in-Some.turn (first_of c.loop-taken.clocks.items c.loop-taken.book.cores c.loop-taken.now (is_held_in c.held_cores-waiting.result) (held_in (loads_at c.args.holds.now) c.loop-taken.book (harts_of c.loop-taken.held)) c.in-Some.turn c.loop-taken.invariant.sound.count (same_held c.args.cores (length c.loop-taken.clocks.items) (is_held_in c.held_cores-waiting.result) (held_in (loads_at c.args.holds.now) c.loop-taken.book (harts_of c.loop-taken.held)) (c.loop-taken.invariant.sound.count ∙ (c.loop-taken.invariant.same.cores ∙ c.requires.book.1)) c.held_cores-waiting.ensures) c.in-Some.ensures)) c.be_late.ensures.each (c.loop-taken.invariant.busy fresh was));
+          (late_turn c.loop-taken.now (dues (held_in (holding_of c.args.holds.now) c.loop-taken.book (harts_of c.loop-taken.held)) (clock_at c.loop-taken.clocks.items)) (clock_at c.loop-taken.clocks.items) (clock_at c.be_late.new.clocks.items) c.loop-taken.book.cores c.in-Some.turn (first_of c.loop-taken.clocks.items c.loop-taken.book.cores c.loop-taken.now (is_held_in c.held_cores-waiting.result) (held_in (holding_of c.args.holds.now) c.loop-taken.book (harts_of c.loop-taken.held)) c.in-Some.turn c.loop-taken.invariant.sound.count (same_held c.args.cores (length c.loop-taken.clocks.items) (is_held_in c.held_cores-waiting.result) (held_in (holding_of c.args.holds.now) c.loop-taken.book (harts_of c.loop-taken.held)) (c.loop-taken.invariant.sound.count ∙ (c.loop-taken.invariant.same.cores ∙ c.requires.book.1)) c.held_cores-waiting.ensures) c.in-Some.ensures) c.be_late.ensures.each).core was) (late_never_idle c.loop-taken.book.image c.loop-taken.book.cores (c.loop-taken.invariant.timed fresh).0 (record { held = harts_of c.loop-taken.held; clocks = clock_at c.loop-taken.clocks.items; now = c.loop-taken.now }) (clock_at c.be_late.new.clocks.items) c.in-Some.turn (was_due c.loop-taken._taken c.loop-taken.book.cores c.loop-taken.now c.loop-taken.clocks.items c.loop-taken.invariant.sound (held_in (holding_of c.args.holds.now) c.loop-taken.book (harts_of c.loop-taken.held)) c.in-Some.turn (first_of c.loop-taken.clocks.items c.loop-taken.book.cores c.loop-taken.now (is_held_in c.held_cores-waiting.result) (held_in (holding_of c.args.holds.now) c.loop-taken.book (harts_of c.loop-taken.held)) c.in-Some.turn c.loop-taken.invariant.sound.count (same_held c.args.cores (length c.loop-taken.clocks.items) (is_held_in c.held_cores-waiting.result) (held_in (holding_of c.args.holds.now) c.loop-taken.book (harts_of c.loop-taken.held)) (c.loop-taken.invariant.sound.count ∙ (c.loop-taken.invariant.same.cores ∙ c.requires.book.1)) c.held_cores-waiting.ensures) c.in-Some.ensures)) (due_before c.loop-taken._taken c.loop-taken.book.cores c.loop-taken.now c.loop-taken.clocks.items c.loop-taken.invariant.sound (held_in (holding_of c.args.holds.now) c.loop-taken.book (harts_of c.loop-taken.held)) c.in-Some.turn (first_of c.loop-taken.clocks.items c.loop-taken.book.cores c.loop-taken.now (is_held_in c.held_cores-waiting.result) (held_in (holding_of c.args.holds.now) c.loop-taken.book (harts_of c.loop-taken.held)) c.in-Some.turn c.loop-taken.invariant.sound.count (same_held c.args.cores (length c.loop-taken.clocks.items) (is_held_in c.held_cores-waiting.result) (held_in (holding_of c.args.holds.now) c.loop-taken.book (harts_of c.loop-taken.held)) (c.loop-taken.invariant.sound.count ∙ (c.loop-taken.invariant.same.cores ∙ c.requires.book.1)) c.held_cores-waiting.ensures) c.in-Some.ensures)) c.be_late.ensures.each (c.loop-taken.invariant.busy fresh was));
       alone = λ one. let was = sym same.cores ∙ one in (
         (c.step.ensures.alone was).0,
         subst (IsAloneClock c.in-Some.turn.at) (sym (on.are 0))
             (turn_alone (driver c.loop-taken.book c.loop-taken.shares) (driver c.step.new.book c.step.new.shares) (clock_at c.be_late.new.clocks.items) c.in-Some.turn c.in_ok-answer.answer
             (the_first c.in-Some.turn.core c.loop-taken.book.cores
-            (late_turn c.loop-taken.now (dues (held_in (loads_at c.args.holds.now) c.loop-taken.book (harts_of c.loop-taken.held)) (clock_at c.loop-taken.clocks.items)) (clock_at c.loop-taken.clocks.items) (clock_at c.be_late.new.clocks.items) c.loop-taken.book.cores c.in-Some.turn (first_of c.loop-taken.clocks.items c.loop-taken.book.cores c.loop-taken.now (is_held_in c.held_cores-waiting.result) (held_in (loads_at c.args.holds.now) c.loop-taken.book (harts_of c.loop-taken.held)) c.in-Some.turn c.loop-taken.invariant.sound.count (same_held c.args.cores (length c.loop-taken.clocks.items) (is_held_in c.held_cores-waiting.result) (held_in (loads_at c.args.holds.now) c.loop-taken.book (harts_of c.loop-taken.held)) (c.loop-taken.invariant.sound.count ∙ (c.loop-taken.invariant.same.cores ∙ c.requires.book.1)) c.held_cores-waiting.ensures) c.in-Some.ensures) c.be_late.ensures.each).core was)
+            (late_turn c.loop-taken.now (dues (held_in (holding_of c.args.holds.now) c.loop-taken.book (harts_of c.loop-taken.held)) (clock_at c.loop-taken.clocks.items)) (clock_at c.loop-taken.clocks.items) (clock_at c.be_late.new.clocks.items) c.loop-taken.book.cores c.in-Some.turn (first_of c.loop-taken.clocks.items c.loop-taken.book.cores c.loop-taken.now (is_held_in c.held_cores-waiting.result) (held_in (holding_of c.args.holds.now) c.loop-taken.book (harts_of c.loop-taken.held)) c.in-Some.turn c.loop-taken.invariant.sound.count (same_held c.args.cores (length c.loop-taken.clocks.items) (is_held_in c.held_cores-waiting.result) (held_in (holding_of c.args.holds.now) c.loop-taken.book (harts_of c.loop-taken.held)) (c.loop-taken.invariant.sound.count ∙ (c.loop-taken.invariant.same.cores ∙ c.requires.book.1)) c.held_cores-waiting.ensures) c.in-Some.ensures) c.be_late.ensures.each).core was)
             (no_restart c.loop-taken.book.totals.restarts c.step.new.book.totals.restarts (c.loop-taken.invariant.alone was).0 (c.step.ensures.alone was).0)
-            (subst NeverWaits c.in_ok-answer.was (c.step.ensures.alone was).1) (late_alone c.loop-taken.now (held_in (loads_at c.args.holds.now) c.loop-taken.book (harts_of c.loop-taken.held)) (clock_at c.loop-taken.clocks.items) (clock_at c.be_late.new.clocks.items) c.loop-taken.book.cores c.in-Some.turn (the_first c.in-Some.turn.core c.loop-taken.book.cores (first_of c.loop-taken.clocks.items c.loop-taken.book.cores c.loop-taken.now (is_held_in c.held_cores-waiting.result) (held_in (loads_at c.args.holds.now) c.loop-taken.book (harts_of c.loop-taken.held)) c.in-Some.turn c.loop-taken.invariant.sound.count (same_held c.args.cores (length c.loop-taken.clocks.items) (is_held_in c.held_cores-waiting.result) (held_in (loads_at c.args.holds.now) c.loop-taken.book (harts_of c.loop-taken.held)) (c.loop-taken.invariant.sound.count ∙ (c.loop-taken.invariant.same.cores ∙ c.requires.book.1)) c.held_cores-waiting.ensures) c.in-Some.ensures).core was) (first_of c.loop-taken.clocks.items c.loop-taken.book.cores c.loop-taken.now (is_held_in c.held_cores-waiting.result) (held_in (loads_at c.args.holds.now) c.loop-taken.book (harts_of c.loop-taken.held)) c.in-Some.turn c.loop-taken.invariant.sound.count (same_held c.args.cores (length c.loop-taken.clocks.items) (is_held_in c.held_cores-waiting.result) (held_in (loads_at c.args.holds.now) c.loop-taken.book (harts_of c.loop-taken.held)) (c.loop-taken.invariant.sound.count ∙ (c.loop-taken.invariant.same.cores ∙ c.requires.book.1)) c.held_cores-waiting.ensures) c.in-Some.ensures) c.be_late.ensures.each (c.loop-taken.invariant.alone was).1)),
+            (subst NeverWaits c.in_ok-answer.was (c.step.ensures.alone was).1) (late_alone c.loop-taken.now (held_in (holding_of c.args.holds.now) c.loop-taken.book (harts_of c.loop-taken.held)) (clock_at c.loop-taken.clocks.items) (clock_at c.be_late.new.clocks.items) c.loop-taken.book.cores c.in-Some.turn (the_first c.in-Some.turn.core c.loop-taken.book.cores (first_of c.loop-taken.clocks.items c.loop-taken.book.cores c.loop-taken.now (is_held_in c.held_cores-waiting.result) (held_in (holding_of c.args.holds.now) c.loop-taken.book (harts_of c.loop-taken.held)) c.in-Some.turn c.loop-taken.invariant.sound.count (same_held c.args.cores (length c.loop-taken.clocks.items) (is_held_in c.held_cores-waiting.result) (held_in (holding_of c.args.holds.now) c.loop-taken.book (harts_of c.loop-taken.held)) (c.loop-taken.invariant.sound.count ∙ (c.loop-taken.invariant.same.cores ∙ c.requires.book.1)) c.held_cores-waiting.ensures) c.in-Some.ensures).core was) (first_of c.loop-taken.clocks.items c.loop-taken.book.cores c.loop-taken.now (is_held_in c.held_cores-waiting.result) (held_in (holding_of c.args.holds.now) c.loop-taken.book (harts_of c.loop-taken.held)) c.in-Some.turn c.loop-taken.invariant.sound.count (same_held c.args.cores (length c.loop-taken.clocks.items) (is_held_in c.held_cores-waiting.result) (held_in (holding_of c.args.holds.now) c.loop-taken.book (harts_of c.loop-taken.held)) (c.loop-taken.invariant.sound.count ∙ (c.loop-taken.invariant.same.cores ∙ c.requires.book.1)) c.held_cores-waiting.ensures) c.in-Some.ensures) c.be_late.ensures.each (c.loop-taken.invariant.alone was).1)),
       );
     }
 
 pub returns-clause-evenly : goal.returns-clause-evenly
 returns-clause-evenly g c =
-    (no_more g.S.EpochStore.makes g.S.EpochStore.view g.S.EpochStore.waits (loads_at c.args.holds.now) at_first (record { held = harts_of c.loop-taken.held; clocks = clock_at c.loop-taken.clocks.items; now = c.loop-taken.now })
+    (no_more g.S.EpochStore.makes g.S.EpochStore.view g.S.EpochStore.waits (holding_of c.args.holds.now) at_first (record { held = harts_of c.loop-taken.held; clocks = clock_at c.loop-taken.clocks.items; now = c.loop-taken.now })
     (driver c.args.book.now c.args.shares.now) (driver c.loop-taken.book c.loop-taken.shares) c.loop-taken.schedule.items c.loop-taken.invariant.drives)
 
 pub returns-clause-driven : goal.returns-clause-driven
 returns-clause-driven g c =
-    is_driven g.S.EpochStore.makes g.S.EpochStore.view g.S.EpochStore.waits (loads_at c.args.holds.now) at_first (driver c.args.book.now c.args.shares.now) (driver c.loop-taken.book c.loop-taken.shares) c.loop-taken.schedule.items (Ok None)
-    (no_more g.S.EpochStore.makes g.S.EpochStore.view g.S.EpochStore.waits (loads_at c.args.holds.now) at_first (record { held = harts_of c.loop-taken.held; clocks = clock_at c.loop-taken.clocks.items; now = c.loop-taken.now })
+    is_driven g.S.EpochStore.makes g.S.EpochStore.view g.S.EpochStore.waits (holding_of c.args.holds.now) at_first (driver c.args.book.now c.args.shares.now) (driver c.loop-taken.book c.loop-taken.shares) c.loop-taken.schedule.items (Ok None)
+    (no_more g.S.EpochStore.makes g.S.EpochStore.view g.S.EpochStore.waits (holding_of c.args.holds.now) at_first (record { held = harts_of c.loop-taken.held; clocks = clock_at c.loop-taken.clocks.items; now = c.loop-taken.now })
     (driver c.args.book.now c.args.shares.now) (driver c.loop-taken.book c.loop-taken.shares) c.loop-taken.schedule.items c.loop-taken.invariant.drives)
 
 pub returns-in_default-next_turn-clause-ends : goal.returns-in_default-next_turn-clause-ends
 returns-in_default-next_turn-clause-ends g c = λ fresh unstopped is.
     let same = c.loop-taken.invariant.same in
-    never_undue c.loop-taken.book (loads_at c.args.holds.now) (harts_of c.loop-taken.held) c.loop-taken.now (clock_at c.loop-taken.clocks.items) c.loop-taken._taken (length c.loop-taken.clocks.items) c.next_turn.result
+    never_undue c.loop-taken.book (holding_of c.args.holds.now) (harts_of c.loop-taken.held) c.loop-taken.now (clock_at c.loop-taken.clocks.items) c.loop-taken._taken (length c.loop-taken.clocks.items) c.next_turn.result
     (subst IsImage (sym same.image) c.look.ensures.is_image) (subst (λ n. 1 ≤ n) (sym same.cores) c.look.ensures.core_count.least) c.loop-taken.invariant.sound.count
     (c.loop-taken.invariant.lasting fresh) c.in_default-next_turn.not-Some
-    (next_by c.loop-taken.now (length c.loop-taken.clocks.items) (is_held_in c.held_cores-waiting.result) (held_in (loads_at c.args.holds.now) c.loop-taken.book (harts_of c.loop-taken.held)) (clock_at c.loop-taken.clocks.items) c.next_turn.result (same_held c.args.cores (length c.loop-taken.clocks.items) (is_held_in c.held_cores-waiting.result) (held_in (loads_at c.args.holds.now) c.loop-taken.book (harts_of c.loop-taken.held)) (c.loop-taken.invariant.sound.count ∙ (c.loop-taken.invariant.same.cores ∙ c.requires.book.1)) c.held_cores-waiting.ensures) c.next_turn.ensures)
+    (next_by c.loop-taken.now (length c.loop-taken.clocks.items) (is_held_in c.held_cores-waiting.result) (held_in (holding_of c.args.holds.now) c.loop-taken.book (harts_of c.loop-taken.held)) (clock_at c.loop-taken.clocks.items) c.next_turn.result (same_held c.args.cores (length c.loop-taken.clocks.items) (is_held_in c.held_cores-waiting.result) (held_in (holding_of c.args.holds.now) c.loop-taken.book (harts_of c.loop-taken.held)) (c.loop-taken.invariant.sound.count ∙ (c.loop-taken.invariant.same.cores ∙ c.requires.book.1)) c.held_cores-waiting.ensures) c.next_turn.ensures)
 
 pub returns-in-Stopped-clause-ends : goal.returns-in-Stopped-clause-ends
 returns-in-Stopped-clause-ends g c = λ fresh unstopped is.

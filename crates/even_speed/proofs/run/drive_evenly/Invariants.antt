@@ -1,4 +1,4 @@
-use Rattle.std.proofs.Common.{◌≡◌, ◌≤◌, ℕ, List, [], ◌++◌, length, Option, Some, Result}
+use Rattle.std.proofs.Common.{◌≡◌, ◌≤◌, ℕ, List, [], ◌++◌, length, true, Option, Some, Result}
 use Rattle.spec_history.specs.FlatState.{FlatState}
 use Rattle.spec_history.specs.Replay.{replay}
 use Rattle.homefree.specs.declared.fault.TurnFault.{TurnFault}
@@ -10,9 +10,10 @@ use Rattle.homefree.specs.Room.{most_room}
 use Rattle.even_speed.specs.declared.run.Ran.{Ran}
 use Rattle.even_speed.specs.Clocks.{clock_at}
 use Rattle.even_speed.specs.Even.{Evenly, at_first}
-use Rattle.even_speed.specs.Held.{loads_at}
+use Rattle.even_speed.specs.Holds.{has_stores, holding_of}
 use Rattle.even_speed.specs.Kept.{AreSound, IsAloneClock}
 use Rattle.even_speed.specs.Lasting.{IsLasting}
+use Rattle.even_speed.specs.Owns.{none_own, own_at, owns_after}
 use Rattle.even_speed.specs.Seats.{none_seated, seat_at, seats_after}
 use Rattle.even_speed.specs.Timed.{AreOnTime, IsNeverIdle}
 use Rattle.even_speed.proofs.run.drive_evenly.Given as goal
@@ -24,9 +25,11 @@ invariant-loop-taken g l = record {
   shares : IsNoMore l.shares l.book.totals;
   sound : AreSound l._taken l.book.cores l.now l.clocks.items;
   seats : (k : ℕ) → seat_at l.seats k ≡ seats_after none_seated l.book.history k;
+  count : length l.owns.items ≡ l.book.cores;
+  owns : has_stores l.holds ≡ true → (k : ℕ) → own_at l.owns.items k ≡ owns_after none_own l.book.history k;
   drives : (rest : List ℕ) (result : Result (Option Ran) TurnFault) (new : Driver g.row.S.Denot)
-      → Evenly g.S.EpochStore.makes g.S.EpochStore.view g.S.EpochStore.waits (loads_at l.holds) (record { held = harts_of l.held; clocks = clock_at l.clocks.items; now = l.now }) (driver l.book l.shares) rest result new
-      → Evenly g.S.EpochStore.makes g.S.EpochStore.view g.S.EpochStore.waits (loads_at l.holds) at_first (driver l.initial.book l.initial.shares) (l.schedule.items ++ rest) result new;
+      → Evenly g.S.EpochStore.makes g.S.EpochStore.view g.S.EpochStore.waits (holding_of l.holds) (record { held = harts_of l.held; clocks = clock_at l.clocks.items; now = l.now }) (driver l.book l.shares) rest result new
+      → Evenly g.S.EpochStore.makes g.S.EpochStore.view g.S.EpochStore.waits (holding_of l.holds) at_first (driver l.initial.book l.initial.shares) (l.schedule.items ++ rest) result new;
   timed : l.initial.book.history ≡ [] → (s : FlatState) × (replay l.book.image l.book.cores l.book.history ≡ Some s)
       × AreOnTime l.book.image l.book.cores s (record { held = harts_of l.held; clocks = clock_at l.clocks.items; now = l.now });
   lasting : l.initial.book.history ≡ [] → IsLasting l.book (clock_at l.clocks.items) l._taken;

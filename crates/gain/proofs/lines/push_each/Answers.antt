@@ -1,5 +1,4 @@
-use Rattle.std.proofs.Common.{◌++◌, get_or, ap, ◌∙◌}
-use Rattle.gain.specs.Text.{line_text}
+use Rattle.gain.specs.KeptLines.{waiting_of}
 use Rattle.gain.proofs.Adds.{adds_more}
 use Rattle.gain.proofs.lines.push_each.Goals as goal
 
@@ -8,7 +7,6 @@ loop-cores-init g c = λ new adds. adds
 
 pub loop-cores-preserved : goal.loop-cores-preserved
 loop-cores-preserved g c =
-    adds_more g.S.EpochStore.starts g.S.EpochStore.makes g.S.EpochStore.view g.S.EpochStore.waits c.args.addresses.now c.args.image.now c.args.room c.args.store.now c.args.first.now c.args.counts.now c.args.text.now.items
-    c.loop-cores.cores-index c.loop-cores.text.items c.push_line.new.text.items c.in_ok-measured.measured c.loop-cores-test.true c.loop-cores.invariant
-    c.in_ok-measured.ensures.is
-    (c.in_ok-push_line.ensures ∙ ap (λ held. c.loop-cores.text.items ++ line_text held c.args.store.now (get_or c.args.counts.now c.loop-cores.cores-index 0) c.args.first.now c.in_ok-measured.measured) c.shows_held.ensures)
+    adds_more g.S.EpochStore.starts g.S.EpochStore.makes g.S.EpochStore.view g.S.EpochStore.waits (waiting_of c.args.waiting.now) c.args.image.now c.args.room c.args.store.now c.args.first.now c.args.counts.now c.args.text.now.items
+    c.loop-cores.cores-index c.loop-cores.text.items c.push_line.new.text.items c.push_held.new.text.items c.in_ok-measured.measured c.loop-cores-test.true c.loop-cores.invariant
+    c.in_ok-measured.ensures.is c.in_ok-push_line.ensures c.in_ok-push_held.ensures

@@ -1,6 +1,6 @@
-use Rattle.std.proofs.Common.{ℕ, List, ◌++◌, All, sym, ap, subst, ◌∙◌}
+use Rattle.std.proofs.Common.{ℕ, List, All, sym, subst, ◌∙◌}
 use Rattle.violations.specs.Rule.{IsCoreCount}
-use Rattle.gain.specs.Text.{line_text}
+use Rattle.gain.specs.KeptLines.{waiting_of}
 use Rattle.gain.proofs.Adds.{are_allowed, lines_of}
 use Rattle.gain.proofs.lines.push_lines.Goals as goal
 
@@ -11,6 +11,6 @@ push_each-requires-clause-counts g c κs within =
 
 pub returns : goal.returns
 returns g c =
-    lines_of g.S.EpochStore.starts g.S.EpochStore.makes g.S.EpochStore.view g.S.EpochStore.waits c.args.addresses.now c.args.image.now c.args.room c.args.cores c.args.store.now c.in_ok-first.first
-    c.as_slice.result.now c.args.text.now.items c.push_line.new.text.items c.push_each.new.text.items c.push_each.result
-    (c.as_slice.ensures.value ∙ c.in_ok-more.ensures) (c.in_ok-push_line.ensures ∙ ap (λ held. c.args.text.now.items ++ line_text held c.args.store.now 1 c.in_ok-first.first c.in_ok-first.first) c.shows_held.ensures) c.in_ok-first.ensures.is c.push_each.ensures
+    lines_of g.S.EpochStore.starts g.S.EpochStore.makes g.S.EpochStore.view g.S.EpochStore.waits (waiting_of c.args.waiting.now) c.args.image.now c.args.room c.args.cores c.args.store.now c.in_ok-first.first
+    c.as_slice.result.now c.args.text.now.items c.push_line.new.text.items c.push_held.new.text.items c.push_each.new.text.items c.push_each.result
+    (c.as_slice.ensures.value ∙ c.in_ok-more.ensures) c.in_ok-push_line.ensures c.in_ok-first.ensures.is c.in_ok-push_held.ensures c.push_each.ensures

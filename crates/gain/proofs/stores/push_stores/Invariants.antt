@@ -7,6 +7,6 @@ use Rattle.gain.proofs.stores.push_stores.Given as goal
 abbrev pub invariant-loop-word : goal.invariant-loop-word
 invariant-loop-word g l = record {
   stores : RunsOnAll l.image l.cores (map g.S.AsStr.text (drop l.word-index l.words));
-  adds : (new : List ℕ) → AddStores l.addresses l.image l.cores l.room (map g.S.AsStr.text (drop l.word-index l.words)) l.text.items new
-      → AddStores l.addresses l.image l.cores l.room (map g.S.AsStr.text l.words) l.initial.text.items new;
+  adds : (new : List ℕ) → AddStores l.held l.addresses l.image l.cores l.room (map g.S.AsStr.text (drop l.word-index l.words)) l.text.items new
+      → AddStores l.held l.addresses l.image l.cores l.room (map g.S.AsStr.text l.words) l.initial.text.items new;
 }

@@ -1,0 +1,16 @@
+use Rattle.std.proofs.lemmas.Result.{MatchResult-weaker}
+use Rattle.even_speed.specs.Holds.{holding_of}
+use Rattle.all_schedules.specs.Made.{loop_on}
+use Rattle.all_schedules.proofs.Paces.{held_stop, held_text}
+use Rattle.all_schedules.proofs.paced.show_held.Goals as goal
+
+pub returns : goal.returns
+returns g c addresses =
+    let starts = g.S.EpochStore.starts in
+    let makes = g.S.EpochStore.makes in
+    let view = g.S.EpochStore.view in
+    let waits = g.S.EpochStore.waits in
+    let l = loop_on c.args.image.now c.args.cores c.args.room in
+    MatchResult-weaker c.show_holding.result c.show_holding.ensures
+    (λ shown is. held_text starts makes view waits addresses l c.args.pieces (holding_of c.in-Ok.holds) shown.0 shown.1.items c.in-Ok.ensures is)
+    (λ cause is. held_stop starts makes view waits addresses l c.args.pieces (holding_of c.in-Ok.holds) cause c.in-Ok.ensures is)

@@ -1,0 +1,63 @@
+//! Which loads wait in a run.
+ghost use Rattle.std.specs.Prelude.{◌≡◌, ◌≤◌, IfOk};
+ghost use Rattle.even_speed.specs.Held.{loads_at};
+ghost use Rattle.even_speed.specs.Holds.{holding_of};
+ghost use Rattle.all_schedules.specs.Holding as spec;
+
+use dependences::stores_in_order;
+use even_speed::Holds;
+use rv32_exec::NoMemory;
+use rv32_image::Image;
+use std::alloc::{AllocError, Global};
+use trace_commands::Store;
+
+/// Pieces of memory.
+#[derive(Clone, Copy, Debug, PartialEq, Eq)]
+pub enum Pieces {
+    /// Bytes.
+    Bytes,
+    /// Lines of the caches of the image's machine.
+    Lines,
+}
+
+/// Those that tell over a store whether a load reads what another epoch stores.
+pub fn pieces_of(store: Store) -> Pieces
+    ensures { result ≡ spec.pieces_of store }
+{
+    match store {
+        Store::Caches(_) => Pieces::Lines,
+        Store::Plain => Pieces::Bytes,
+    }
+}
+
+/// The loads at these addresses of code wait, until their epoch is the homefree one.
+///
+/// `AllocError`: memory ran out.
+pub fn holds_at(alloc: Global, addresses: &[u32]) -> Result<Holds, AllocError>
+    ensures { IfOk result (λ holds. holding_of holds ≡ loads_at addresses.now) }
+{
+    let addresses = Vec::from_slice(alloc, addresses)?;
+    Ok(Holds::new(addresses, Vec::new(alloc), 1))
+}
+
+/// The loads wait that read from outside a piece in which earlier epochs store in order, until these have committed.
+///
+/// `NoMemory`: there was none for the run in order, or for a list of what it stores.
+pub fn holds_in_order(alloc: Global, image: &Image, pieces: Pieces) -> Result<Holds, NoMemory>
+    ensures { IfOk result (λ holds. spec.WaitsInOrder image.now pieces (holding_of holds)) }
+{
+    let length = piece_length(image, pieces);
+    let stores = stores_in_order(alloc, image, length)?;
+    Ok(Holds::new(Vec::new(alloc), stores, length))
+}
+
+/// How many bytes a piece has.
+fn piece_length(image: &Image, pieces: Pieces) -> u32
+    ensures length { result ≡ spec.piece_length pieces image.now }
+    ensures some { 1 ≤ result }
+{
+    match pieces {
+        Pieces::Bytes => 1,
+        Pieces::Lines => image.machine().line_length,
+    }
+}
