@@ -165,7 +165,8 @@ def without_held(output: str) -> tuple[str, str]:
     """The lines but those of held runs, and those, as lines of a store."""
     lines = output.splitlines(keepends=True)
     held = [line for line in lines if line.startswith("held ")]
-    return "".join(line for line in lines if line not in held), "".join(line.replace("held", "store", 1) for line in held)
+    others = [line for line in lines if line not in held]
+    return "".join(others), "".join(line.replace("held", "store", 1) for line in held)
 
 
 @comparing
