@@ -2,7 +2,7 @@
 use Rattle.std.proofs.Common.{◌≡◌, ◌⊎◌, ℕ, ◌+◌, ◌-◌, ◌/◌, ◌<◌, ◌≤◌, Bool, List, [], ◌∷◌, ◌++◌, length, slice_index, Option, Some, None, Result, Ok, Err, OnOk, refl, sym, ap, subst, ◌∙◌, inl, inr, arith}
 use Rattle.std.specs.List.{Contains}
 use Rattle.std.proofs.lemmas.Bool.{cases_eq}
-use Rattle.std.proofs.lemmas.List.{get_or-set_other, get_or-set_same}
+use Rattle.std.proofs.lemmas.List.{get_or-set_other}
 use Rattle.std.proofs.lemmas.List.Elements.{Contains-append_left, Contains-push, Contains-push_cases}
 use Rattle.std.proofs.lemmas.Nat.{le-div}
 use Rattle.std.proofs.Math.Nat.{div-mul-le_self}
@@ -35,19 +35,6 @@ noted_now epoch piece last list noted p is = elim (cases_eq p piece) [
   | inr other ↦ Contains-append_left list ((piece, epoch) ∷ []) (p, epoch) (noted p (sym (get_or-set_other last piece p (epoch + 1) 0 other) ∙ is))
 ]
 
-pub fresh_now : (epoch piece : ℕ) (last : List ℕ) → piece < length last → ((a : ℕ) → slice_index last a ≤ epoch + 1) → (a : ℕ) → slice_index (set last piece (epoch + 1)) a ≤ epoch + 1
-fresh_now epoch piece last within fresh a = elim (cases_eq a piece) [
-  | inl e ↦ let is = get_or-set_same last piece (epoch + 1) 0 within in let same = ap (λ n. slice_index (set last piece (epoch + 1)) n) e in omega (arith, is, same)
-  | inr other ↦ let is = get_or-set_other last piece a (epoch + 1) 0 other in omega (arith, is, fresh a)
-]
-
-pub more_there : (epoch piece : ℕ) (list : List (ℕ × ℕ)) → Contains list (piece, epoch) → AreMore epoch (λ p. p ≡ piece) list list
-more_there epoch piece list there = record {
-  kept = λ x in_it. in_it;
-  only = λ x in_it. inl in_it;
-  all = λ p is. subst (λ n. Contains list (n, epoch)) (sym is) there;
-}
-
 pub more_now : (epoch piece : ℕ) (list : List (ℕ × ℕ)) → AreMore epoch (λ p. p ≡ piece) list (list ++ (piece, epoch) ∷ [])
 more_now epoch piece list = record {
   kept = λ x in_it. Contains-append_left list ((piece, epoch) ∷ []) x in_it;
@@ -68,13 +55,6 @@ more_by (Ok x) epoch piece list new is = subst (AreMore epoch (λ p. p ≡ piece
 more_by (Err e) epoch piece list new is = tt
 
 -- ---- the pieces of an access
-
-pub more_none : (epoch length address : ℕ) (list : List (ℕ × ℕ)) → AreMore epoch (IsPieceOf length address 0) list list
-more_none epoch length address list = record {
-  kept = λ x in_it. in_it;
-  only = λ x in_it. inl in_it;
-  all = λ p is. absurd (omega (arith, is.below));
-}
 
 wider : (length address i p : ℕ) → IsPieceOf length address i p → IsPieceOf length address (i + 1) p
 wider length address i p x = record { i = x.i; below = omega (arith, x.below); is = x.is }
