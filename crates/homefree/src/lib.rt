@@ -21,4 +21,5 @@ pub use answer::{Answer, Cause, StopCause};
 pub use book::{Book, Loop, MOST_ROOM};
 pub use fault::TurnFault;
 pub use laws::{drive_is_fixed, turn_is_fixed};
+pub use register::Running;
 pub use schedule::{drive, step};

@@ -1,12 +1,14 @@
 //! What can be read of a book.
-ghost use Rattle.std.specs.Prelude.{◌≡◌, ℕ, IfOk, length, Some, None, slice_get, nat_lt, if◌then◌else◌};
+ghost use Rattle.std.specs.Prelude.{◌≡◌, ℕ, IfOk, ◌<◌, length, Some, None, option_copied, option_map, slice_get, nat_lt, if◌then◌else◌};
 ghost use Rattle.spec_history.specs.FlatState.{FlatState};
 ghost use Rattle.violations.specs.View.{IsCommitted};
 ghost use Rattle.homefree.specs.BookView.{ReplaysTo};
 ghost use Rattle.homefree.specs.InStep.{InStep};
+ghost use Rattle.homefree.specs.Kept.{kept_of};
 
 use crate::answer::StopCause;
 use crate::book::Book;
+use crate::register::Running;
 use run_ledger::Counts;
 use rv32_exec::{End, Image};
 use spec_history::Entry;
@@ -69,6 +71,27 @@ impl<S: EpochStore> Book<S> {
         ensures step { InStep S.view self.now }
     {
         self.inside.parts.register.homefree
+    }
+
+    /// The epoch that an idle core begins next. None: none is left.
+    pub fn next_epoch(&self) -> Option<u32>
+        ensures { (s : FlatState) → ReplaysTo self.now s
+            → result ≡ (if nat_lt s.next_epoch self.now.image.epochs then Some s.next_epoch else None) }
+    {
+        let register = &self.inside.parts.register;
+        if register.next_epoch < register.image.epochs() {
+            Some(register.next_epoch)
+        } else {
+            None
+        }
+    }
+
+    /// What a core runs. None: it is idle.
+    pub fn running(&self, core: u32) -> Option<&Running>
+        requires { core < self.now.cores }
+        ensures { (s : FlatState) → ReplaysTo self.now s → option_copied result ≡ option_map kept_of (s.cores core) }
+    {
+        self.inside.parts.register.running[core as usize].as_ref()
     }
 
     /// How the loop ended, where it is over.

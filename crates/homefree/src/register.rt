@@ -8,7 +8,7 @@ use violations::Attempt;
 
 /// What a core runs.
 #[derive(Clone, Copy, Debug)]
-pub(crate) struct Running {
+pub struct Running {
     /// The epoch's number.
     pub epoch: u32,
     /// Its hart at its last event.
