@@ -1,7 +1,7 @@
 mod CoreCopies
 mod CommittedMemory
 mod Rooms
-mod SameRooms
+pub mod SameRooms
 mod Making
 pub mod Bytes
 mod Surveys

@@ -92,7 +92,7 @@ one_line c d p q length geometry copies ways a w lt = record {
         let valid = (is_copy_of-true (line_in c a w) (line_in d a w).addr (there d c q p (sym length) (sym geometry) (λ x. sym (copies x)) (λ x. sym (ways x)) a w (in_other c d p q length geometry copies ways w lt) f)).0 in
         absurd (true≢false (sym valid ∙ e))
 
-invalid_unmodified : (s : LineState) → is_valid s ≡ false → is_modified s ≡ false
+pub invalid_unmodified : (s : LineState) → is_valid s ≡ false → is_modified s ≡ false
 invalid_unmodified I e = refl
 invalid_unmodified S e = absurd (true≢false e)
 invalid_unmodified E e = absurd (true≢false e)
@@ -267,7 +267,7 @@ same_call (Cancel core) b f g one = refl
 
 -- ---- lists of calls
 
-same_rooms : (v w : CachedView) (k : ℕ) → IsPlacedCore v.cores k → IsPlacedCore w.cores k → bus v ≡ bus w
+pub same_rooms : (v w : CachedView) (k : ℕ) → IsPlacedCore v.cores k → IsPlacedCore w.cores k → bus v ≡ bus w
     → (a : ℕ) → IsOneRoom (room v k a) (room w k a)
 same_rooms v w k p q same a = core_room (slice_get v.cores k) (slice_get w.cores k) p q (ap (λ (b : Bus). b.core k) same) a
 

@@ -1,4 +1,4 @@
-ghost use Rattle.std.specs.Prelude.{◌≡◌, ℕ, ◌<◌, ◌%◌, true, false, Some, IfOk, IsOk};
+ghost use Rattle.std.specs.Prelude.{◌≡◌, ℕ, ◌<◌, ◌%◌, true, false, Some, IfOk, IsOk, option_map};
 ghost use Rattle.violations.specs.View as view_spec;
 ghost use Rattle.violations.specs.Rule as rule;
 ghost use Rattle.violations.specs.Answers.{MatchStep, wait_of};
@@ -16,13 +16,15 @@ ghost use Rattle.spec_bus.specs.Answers.{MatchAnswer, IsLoaded, IsStored};
 
 use crate::cores::idle_cores;
 use crate::parts::Parts;
+use crate::speculative::owns_line;
+use crate::straight::stores_alone;
 use cache_lines::Line;
 use orb::Orb;
 use rv32_image::{Image, NoMemory};
 use spec_states::LineState;
 use std::alloc::{AllocError, Global};
 use std::marker::Model;
-use violations::{Attempt, CoreSet, EpochStore, Step};
+use violations::{Attempt, CoreSet, EpochStore, Step, WaitCause};
 
 /// A copy of a line, without its bytes.
 #[derive(Clone, Copy, Debug, PartialEq, Eq)]
@@ -116,12 +118,71 @@ impl CachedBus {
         &self.parts.core(core as usize).orb
     }
 
+    /// Whether a core owns the line in which this address lies, so that it may speculatively store to it and tell nobody.
+    pub fn owns_line(&self, core: u32, addr: u32) -> bool
+        requires { core < (spec.bus self.now).shape.cores }
+        ensures { result ≡ speculative.owns (spec.bus self.now) core (spec.line_of self.now addr) }
+    {
+        let copy = self.parts.copy(core as usize, self.line_of(addr));
+        owns_line(copy.state, copy.marks)
+    }
+
+    /// Whether a core that doesn't speculate may store to the line in which this address lies, and tell nobody.
+    pub fn stores_alone(&self, core: u32, addr: u32) -> bool
+        requires { core < (spec.bus self.now).shape.cores }
+        ensures { result ≡ straight.stores_alone (speculative.own (spec.bus self.now) core (spec.line_of self.now addr)).state }
+    {
+        stores_alone(self.parts.copy(core as usize, self.line_of(addr)).state)
+    }
+
+    /// The state of the line in whose way the line of this address would come into a core's cache. None: every way of its set carries marks.
+    pub fn room_at(&self, core: u32, addr: u32) -> Option<LineState>
+        requires { core < (spec.bus self.now).shape.cores }
+        ensures { result ≡ option_map (λ room. room.line.state) (spec.room self.now core (spec.line_of self.now addr)) }
+    {
+        let line = self.line_of(addr);
+        let cache = &self.parts.core(core as usize).cache;
+        match cache.victim(line) {
+            Some(way) => Some(cache.line(line, way).state),
+            None => None,
+        }
+    }
+
+    /// Why a speculative load would wait, where it would.
+    pub fn load_wait(&self, core: u32, addr: u32) -> Option<WaitCause>
+        requires { core < (spec.bus self.now).shape.cores }
+        ensures { (width : ℕ) → result ≡ (spec.waits self.now).load core addr width }
+    {
+        let line = self.line_of(addr);
+        self.parts.load_wait(core as usize, line)
+    }
+
+    /// Why a speculative store of `width` bytes would wait, where it would.
+    pub fn store_wait(&self, core: u32, addr: u32, width: u32) -> Option<WaitCause>
+        requires core { core < (spec.bus self.now).shape.cores }
+        requires access { view_spec.IsLoad (spec.store_view self.now).shape addr width }
+        ensures { result ≡ (spec.waits self.now).store core addr width }
+    {
+        let line = self.line_of(addr);
+        let offset = addr % self.parts.machine.line_length;
+        self.parts.store_wait(core as usize, line, offset, width)
+    }
+
     /// In a core's cache each line stands in its place: this call does nothing, and its contract is the law.
     pub fn look_cache(&self, core: u32)
         requires { core < (spec.bus self.now).shape.cores }
         ensures { IsPlacedCore self.now.cores core }
     {
         let _ways = self.parts.core(core as usize).cache.ways();
+    }
+
+    /// In each cache each line stands in its place: this call does nothing, and its contract is the law.
+    pub fn look_caches(&self)
+        ensures { (k : ℕ) → IsPlacedCore self.now.cores k }
+    {
+        for core in 0..self.cores() {
+            self.look_cache(core);
+        }
     }
 }
 

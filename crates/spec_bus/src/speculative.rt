@@ -6,7 +6,7 @@ ghost use Rattle.bus_states.specs.Bus.{sees};
 ghost use Rattle.bus_states.specs.Messages as message_spec;
 ghost use Rattle.memory_bytes.specs.Bytes.{number_at};
 ghost use Rattle.bus_states.specs.Speculative as speculative;
-ghost use Rattle.spec_bus.specs.Parts.{IsAccessIn, MaySend, bus_in, line_at, room_at};
+ghost use Rattle.spec_bus.specs.Parts.{IsAccessIn, IsAtLine, MaySend, bus_in, line_at, room_at};
 ghost use Rattle.spec_bus.specs.Answers.{MatchAnswer, IsLoaded, MayTake, full_or_busy, IsTaken, IsStored};
 ghost use Rattle.spec_states.specs.Rows.{owns_line};
 ghost use Rattle.bus_states.specs.declared.notice.Notice.TheVariants.{Load};
@@ -19,7 +19,7 @@ use spec_states::{LineState, Marks, Next, after_own_load, after_own_store};
 use violations::{CoreSet, Step, WaitCause};
 
 /// Whether a core owns a line with such a copy, so that it may store to it and tell nobody.
-fn owns_line(state: LineState, marks: Marks) -> bool
+pub(crate) fn owns_line(state: LineState, marks: Marks) -> bool
     ensures { result ≡ owns_line state marks }
 {
     match state {
@@ -112,6 +112,23 @@ impl Parts {
         }
     }
 
+    /// Why a speculative load from the line at `addr` waits, where it does.
+    pub(crate) fn load_wait(&self, core: usize, addr: u32) -> Option<WaitCause>
+        requires { IsAtLine self.now core addr }
+        ensures { result ≡ speculative.load_wait (bus_in self.now) core addr (room_at self.now.cores.items core addr) }
+    {
+        if self.copy(core, addr).state.is_valid() {
+            return None;
+        }
+        let Some(_way) = self.core(core).cache.victim(addr) else {
+            return Some(WaitCause::NoWay);
+        };
+        if self.survey(Notice::Load, core, addr).busy {
+            return Some(WaitCause::OrbBusy);
+        }
+        None
+    }
+
     /// What a store makes of this core's copy of a line that it doesn't own, and whom its message violates; or why it waits.
     fn survey_store(
         &self,
@@ -135,6 +152,33 @@ impl Parts {
             Err(WaitCause::OrbBusy)
         } else {
             Ok((next, survey.hurt))
+        }
+    }
+
+    /// Why a speculative store of `width` bytes at `offset` of the line at `addr` waits, where it does.
+    pub(crate) fn store_wait(
+        &self,
+        core: usize,
+        addr: u32,
+        offset: u32,
+        width: u32,
+    ) -> Option<WaitCause>
+        requires access { IsAccessIn self.now core addr offset width }
+        requires few { length self.now.cores.items ≤ 16 }
+        ensures { result ≡ speculative.store_wait (bus_in self.now) core addr offset width (room_at self.now.cores.items core addr) }
+    {
+        let copy = self.copy(core, addr);
+        if owns_line(copy.state, copy.marks) {
+            return None;
+        }
+        if !copy.state.is_valid() {
+            let Some(_way) = self.core(core).cache.victim(addr) else {
+                return Some(WaitCause::NoWay);
+            };
+        }
+        match self.survey_store(core, addr, offset, width) {
+            Ok(_) => None,
+            Err(cause) => Some(cause),
         }
     }
 

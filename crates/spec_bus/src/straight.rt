@@ -39,7 +39,7 @@ fn unmarked_if(alone: bool, state: LineState) -> Next
 }
 
 /// Whether a core may store to an unmarked copy in this state and tell nobody.
-fn stores_alone(state: LineState) -> bool
+pub(crate) fn stores_alone(state: LineState) -> bool
     ensures { result ≡ stores_alone state }
 {
     matches!(state, LineState::E | LineState::M)
