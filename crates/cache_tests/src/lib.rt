@@ -6,6 +6,8 @@ mod buffers;
 #[cfg(test)]
 mod checks;
 #[cfg(test)]
+mod costs;
+#[cfg(test)]
 mod geometries;
 #[cfg(test)]
 mod lines;

@@ -12,11 +12,14 @@
 //! | `line 0 64 SpS r f` | core 0's copy of the line at 64 is in this state, loaded, with these modified bytes |
 //! | `orb 0 64 80` | core 0's buffer has these lines, in this order |
 //! | `byte 64 7` | the committed byte at 64 is 7 |
+//! | `store_costs 0 64 1 0 2` | a store of core 0 at 64 would be 1 miss, 0 upgrades and 2 lines written back; so of other accesses |
+//! | `publish_costs 0 2` | the publish of core 0 would ask for 2 lines |
 
 use crate::checks::{is_listed, lies, may_begin, may_publish, runs};
 use crate::words::{mask_at, number, state, word};
 use spec_bus::CachedBus;
 use std::process::Abort;
+use turn_costs::{Actions, PricedStore};
 use violations::WaitCause::{NoWay, OrbBusy, OrbFull};
 use violations::{CoreSet, EpochStore, Step, WaitCause};
 
@@ -37,21 +40,76 @@ fn is_played(bus: &mut CachedBus, call: &str) -> bool {
         "line" => is_line(bus, call),
         "orb" => is_orb(bus, call),
         "byte" => is_byte(bus, call),
-        _ => is_access(bus, call),
+        "publish_costs" => is_publish_foretold(bus, call),
+        _ => is_cost_foretold(bus, call) || is_access(bus, call),
     }
 }
 
 /// The same of an access.
 fn is_access(bus: &mut CachedBus, call: &str) -> bool {
     match word(call, 0) {
-        "load" => is_done(load(bus, call), number(call, 4), call),
-        "store" => is_done(store(bus, call), 0, call),
-        "load_waits" => is_waiting(load(bus, call), word(call, 4)),
-        "store_waits" => is_waiting(store(bus, call), word(call, 5)),
+        "load" => !would_wait(bus, call) && is_done(load(bus, call), number(call, 4), call),
+        "store" => !would_wait(bus, call) && is_done(store(bus, call), 0, call),
+        "load_waits" => would_wait(bus, call) && is_waiting(load(bus, call), word(call, 4)),
+        "store_waits" => would_wait(bus, call) && is_waiting(store(bus, call), word(call, 5)),
         "straight_load" => is_straight_load(bus, call),
         "straight_store" => is_straight_store(bus, call),
         _ => false,
     }
+}
+
+/// Whether it is said before a speculative access that it waits.
+fn would_wait(bus: &CachedBus, call: &str) -> bool {
+    let (core, addr, width) = (number(call, 1), number(call, 2), number(call, 3));
+    if core >= bus.cores() {
+        return false;
+    }
+    if !lies(bus, addr, width) {
+        return false;
+    }
+    if word(call, 0).starts_with("load") {
+        bus.load_waits(core, addr, width)
+    } else {
+        bus.store_waits(core, addr, width)
+    }
+}
+
+/// What an access would do that costs. None: the call tells of no such access.
+fn access_actions(bus: &CachedBus, call: &str) -> Option<Actions> {
+    let (core, addr) = (number(call, 1), number(call, 2));
+    if core >= bus.cores() {
+        return None;
+    }
+    match word(call, 0) {
+        "load_costs" => Some(bus.load_actions(core, false, addr)),
+        "store_costs" => Some(bus.store_actions(core, false, addr)),
+        "straight_load_costs" => Some(bus.load_actions(core, true, addr)),
+        "straight_store_costs" => Some(bus.store_actions(core, true, addr)),
+        _ => None,
+    }
+}
+
+/// Whether an access would do so much that costs.
+fn is_cost_foretold(bus: &CachedBus, call: &str) -> bool {
+    access_actions(bus, call)
+        == Some(Actions {
+            misses: number(call, 3),
+            upgrades: number(call, 4),
+            lines: 0,
+            write_backs: number(call, 5),
+            begins: 0,
+            restarts: 0,
+            commits: 0,
+        })
+}
+
+/// Whether a publish would ask for so many lines.
+fn is_publish_foretold(bus: &CachedBus, call: &str) -> bool {
+    let core = number(call, 1);
+    if core >= bus.cores() {
+        return false;
+    }
+    bus.publish_lines(core) == number(call, 2)
 }
 
 /// Whether these are the cores that a call names from a place on, and no others.
