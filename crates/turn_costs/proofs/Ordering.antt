@@ -1,14 +1,11 @@
 -- The run in order, access by access and epoch by epoch.
-use Rattle.std.proofs.Common.{◌≡◌, None, ℕ, suc, ◌+◌, ◌*◌, ◌<◌, ◌≤◌, true, [], ◌∷◌, refl, arith, add-one}
+use Rattle.std.proofs.Common.{◌≡◌, None, ℕ, suc, ◌+◌, ◌*◌, ◌<◌, ◌≤◌, true, refl, arith}
 use Rattle.rv32_image.specs.Image.{LoadedImage}
 use Rattle.rv32_exec.specs.Hart.{HartState, start_of}
-use Rattle.violations.specs.Calls.{Reserve, Leave, Leads}
 use Rattle.violations.specs.Rule.{shape_of}
 use Rattle.violations.specs.View.{Runs}
 use Rattle.turn_costs.specs.declared.costs.Costs.{Costs}
-use Rattle.turn_costs.specs.Order.{Kind, Goes, GoesThrough, RunsEpoch, RunsEpochs}
-
--- ---- within an epoch
+use Rattle.turn_costs.specs.Order.{Kind, Goes, GoesThrough, RunsEpochs}
 
 -- the accesses so far have led from the store where it began to this hart and store
 pub record SoFar {S : Type 0} (kind : Kind S) (image : LoadedImage) (costs : Costs) (epoch : ℕ) (begun : S) (memory : ℕ) (hart : HartState) (store : S) : Type 0 where
@@ -18,17 +15,6 @@ pub record SoFar {S : Type 0} (kind : Kind S) (image : LoadedImage) (costs : Cos
   pub runs : Runs (kind.view store) 0 true
   pub within : hart.done ≤ image.limit
   pub few : memory ≤ 2000000 * hart.done
-
-pub so_far_none : {S : Type 0} (kind : Kind S) (image : LoadedImage) (costs : Costs) (epoch : ℕ) (begun : S) → (kind.view begun).shape ≡ shape_of image 1
-    → Runs (kind.view begun) 0 true → SoFar kind image costs epoch begun 0 (start_of image epoch) begun
-so_far_none kind image costs epoch begun shape runs = record {
-  accesses = 0;
-  goes = (refl, refl, refl);
-  shape = shape;
-  runs = runs;
-  within = omega arith;
-  few = omega arith;
-}
 
 pub so_far_more : {S : Type 0} (kind : Kind S) (image : LoadedImage) (costs : Costs) (epoch : ℕ) (begun : S) (memory : ℕ) (hart : HartState) (store : S)
     → SoFar kind image costs epoch begun memory hart store → (steps : ℕ) (h : HartState) (s : S) → Goes kind image costs hart store steps h s
@@ -43,18 +29,8 @@ so_far_more kind image costs epoch begun memory hart store r steps h s goes shap
   few = let so_far = r.few in omega arith;
 }
 
--- ---- epochs
-
-pub epochs_none : {S : Type 0} (kind : Kind S) (image : LoadedImage) (costs : Costs) (fresh : S) → RunsEpochs kind image costs fresh 0 0 fresh
-epochs_none kind image costs fresh = (refl, refl)
-
-pub epochs_more : {S : Type 0} (kind : Kind S) (image : LoadedImage) (costs : Costs) (fresh : S) (n steps : ℕ) (q : S) → RunsEpochs kind image costs fresh n steps q
-    → (one : ℕ) (p : S) → RunsEpoch kind image costs n q one true p → (s : S) → Leads kind.makes (Reserve ∷ Leave 0 ∷ []) p s
-    → RunsEpochs kind image costs fresh (n + 1) (steps + one) s
-epochs_more kind image costs fresh n steps q so_far one p runs s leaves = rw add-one (q, p, steps, one, so_far, runs, leaves, refl)
-
 -- the epochs so far, from a fresh store on
-pub record EpochsSoFar {S : Type 0} (kind : Kind S) (image : LoadedImage) (costs : Costs) (fresh : S) (n steps : ℕ) (store : S) : Type 0 where
+pub record AreSoFar {S : Type 0} (kind : Kind S) (image : LoadedImage) (costs : Costs) (fresh : S) (n steps : ℕ) (store : S) : Type 0 where
   pub runs : RunsEpochs kind image costs fresh n steps store
   pub shape : (kind.view store).shape ≡ shape_of image 1
   pub idle : (kind.view store).attempt 0 ≡ None

@@ -1,5 +1,5 @@
 -- A turn, by what its core runs.
-use Rattle.std.proofs.Common.{◌≡◌, ℕ, Bool, true, false, cond, is_some, Option, Some, None, option_map, refl, sym, ap, subst, ◌∙◌}
+use Rattle.std.proofs.Common.{◌≡◌, ℕ, Bool, false, is_some, Option, Some, None, option_map, refl, sym, ap, subst, ◌∙◌}
 use Rattle.rv32_exec.specs.declared.sequential.End.{End}
 use Rattle.rv32_exec.specs.declared.stop.Stop.{Stop}
 use Rattle.rv32_exec.specs.declared.stop.Stop.TheVariants as stop
@@ -7,31 +7,17 @@ use Rattle.homefree.specs.declared.register.Running.{Running}
 use Rattle.homefree.specs.Kept.{kept_of}
 use Rattle.homefree.specs.Turned.{Turn}
 use Rattle.turn_costs.specs.declared.actions.Actions.{Actions}
-use Rattle.turn_costs.specs.Actions.{no_actions}
 use Rattle.turn_costs.specs.Prices.{Prices}
-use Rattle.turn_costs.specs.Turns.{accesses_at, ends_at, stops_at, runs_on, acts_by, unless_over, actions_of}
-
-over : (end : Option End) (a : Actions) → is_some end ≡ true → no_actions ≡ unless_over end a
-over None a is = absurd cc
-over (Some end) a is = refl
+use Rattle.turn_costs.specs.Turns.{accesses_at, ends_at, stops_at, acts_by, unless_over, actions_of}
 
 going : (end : Option End) (a : Actions) → is_some end ≡ false → a ≡ unless_over end a
 going None a is = refl
 going (Some end) a is = absurd cc
 
-pub nothing_over : (p : Prices) (t : Turn) → is_some t.state.end ≡ true → no_actions ≡ actions_of p t
-nothing_over p t is = over t.state.end (acts_by p t (option_map kept_of (t.state.cores t.core))) is
-
 -- what is done by what the core runs is the turn's
 pub by_core : (p : Prices) (t : Turn) (o : Option Running) (a : Actions) → is_some t.state.end ≡ false → o ≡ option_map kept_of (t.state.cores t.core)
     → a ≡ acts_by p t o → a ≡ actions_of p t
 by_core p t o a on is same = same ∙ (ap (acts_by p t) is ∙ going t.state.end (acts_by p t (option_map kept_of (t.state.cores t.core))) on)
-
-pub hurt_core : (p : Prices) (t : Turn) (r : Running) → r.hurt ≡ true → acts_by p t (Some r) ≡ record no_actions { restarts = 1 }
-hurt_core p t r is = ap (λ b. cond b (let a : Actions = record no_actions { restarts = 1 } in a) (runs_on p t r t.next)) is
-
-pub unhurt_core : (p : Prices) (t : Turn) (r : Running) → r.hurt ≡ false → acts_by p t (Some r) ≡ runs_on p t r t.next
-unhurt_core p t r is = ap (λ b. cond b (let a : Actions = record no_actions { restarts = 1 } in a) (runs_on p t r t.next)) is
 
 -- ---- the stop of a core that isn't hurt
 

@@ -21,10 +21,11 @@ abbrev pub leaves_modified : Option Room → Bool
 leaves_modified None = false
 leaves_modified (Some room) = is_modified room.line.state
 
--- another core has the line as M
+-- core k is another one, and has the line as M
 abbrev pub is_modified_at : Bus → ℕ → ℕ → ℕ → Bool
 is_modified_at bus core line k = not (k == core) && is_modified ((bus.core k).copy line).state
 
+-- some core is such a one
 abbrev pub is_modified_elsewhere : Bus → ℕ → ℕ → Bool
 is_modified_elsewhere bus core line = some_core bus.shape.cores (is_modified_at bus core line)
 

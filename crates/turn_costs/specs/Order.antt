@@ -19,7 +19,7 @@ use Rattle.turn_costs.specs.Actions.{memory_steps}
 use Rattle.turn_costs.specs.Prices.{Prices}
 use Rattle.turn_costs.specs.Turns.{access_at}
 
--- a store, as far as the run hangs on it: what its calls make of it, what it shows, what they cost
+-- of a kind of store, what the run hangs on: what calls make of a store, what it shows, what calls cost
 pub record Kind (S : Type 0) : Type 1 where
   pub makes : S → Call → S → Type 0
   pub view : S → StoreView
@@ -42,14 +42,14 @@ after_access now (stop.Store address width value) v = stepped now
 after_access now stop.Ended v = now
 after_access now (stop.Fault cause pc) v = now
 
--- an event is no access
+-- it is an end or a fault
 abbrev pub IsLast : Stop → Type 0
 IsLast (stop.Load address width signed rd) = ⊥
 IsLast (stop.Store address width value) = ⊥
 IsLast stop.Ended = Unit {0}
 IsLast (stop.Fault cause pc) = Unit {0}
 
--- one access more, by the hart g over the store r, which first makes room
+-- the hart g makes its access over the store r, which first makes room for the call. That costs so many steps, and leads to h and s
 pub record Goes {S : Type 0} (kind : Kind S) (image : LoadedImage) (costs : Costs) (g : HartState) (r : S) (steps : ℕ) (h : HartState) (s : S) : Type 0 where
   pub reserved : S
   pub reserves : kind.makes r Reserve reserved
@@ -107,7 +107,7 @@ pub record IsOrder {S : Type 0} (starts : LoadedImage → ℕ → S → Type 0) 
   pub last : IsLastOf kind image costs epochs store rest
   pub steps_are : steps ≡ before + rest
 
--- so where there is one
+-- where an access was made, this of where it led to
 abbrev pub IfGone : Result (Option Gone) NoMemory → (Gone → Type 0) → Type 0
 IfGone (Ok (Some gone)) P = P gone
 IfGone (Ok None) P = Unit {0}
