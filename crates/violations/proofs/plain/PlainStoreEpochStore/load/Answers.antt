@@ -1,6 +1,6 @@
-use Rattle.std.proofs.Common.{length, ◌≡◌, ◌≤◌, ◌+◌, ◌-◌, false, refl, sym, subst, arith}
+use Rattle.std.proofs.Common.{length, ◌≡◌, ◌≤◌, ◌+◌, ◌-◌, false, refl, sym, ap, subst, arith}
 use Rattle.violations.specs.View.{Runs, attempt_of, IsSettled}
-use Rattle.violations.specs.Plain.{store_view}
+use Rattle.violations.specs.Plain.{PlainView, store_view}
 use Rattle.violations.specs.PlainInside.{view_of}
 use Rattle.violations.proofs.Changing.{state_there}
 use Rattle.violations.proofs.Plains.{fit_state}
@@ -62,3 +62,7 @@ returns-clause-makes c = record {
   after = (invariant_of-self c).settled;
   made = record { value = c.load-value.result; hurt = is_in c.none.result; loads = returns-clause-loads c; guards = returns-clause-guards c; nobody = c.none.ensures };
 }
+
+pub returns-clause-budget : goal.returns-clause-budget
+returns-clause-budget c =
+    let same = ap (λ (p : PlainView). p.budget) c.self.view_is in omega (arith, c.requires.budget, same)
