@@ -1,5 +1,5 @@
 -- That what a schedule makes is fixed, from that its turns are.
-use Rattle.std.proofs.Common.{◌≡◌, ◌≢◌, ◌⊎◌, ℕ, ◌<◌, List, length, slice_get, None, Some, Option, Result, Ok, Err, refl, sym, ap, subst, ◌∙◌, inl, inr, arith}
+use Rattle.std.proofs.Common.{◌≡◌, ◌≢◌, ◌⊎◌, ℕ, ◌<◌, ◌&&◌, is_some, List, length, slice_get, None, Some, Option, Result, Ok, Err, refl, sym, ap, subst, ◌∙◌, inl, inr, arith}
 use native.Mathlib.Decide.{dec_lt}
 use Rattle.rv32_image.specs.Image.{LoadedImage}
 use Rattle.rv32_exec.specs.declared.sequential.End.{End}
@@ -15,6 +15,7 @@ use Rattle.homefree.specs.declared.fault.TurnFault.{TurnFault}
 use Rattle.homefree.specs.declared.fault.TurnFault.TheVariants.{NoMemory}
 use Rattle.homefree.specs.Driven.{Driver, Driven, driver}
 use Rattle.homefree.specs.DriveFixed.{AreTwinDrivers, DriveIsFixed}
+use Rattle.turn_costs.specs.Prices.{Prices}
 use Rattle.even_speed.specs.Even.{at_first}
 use Rattle.even_speed.specs.Fixed.{RunIsFixed}
 use Rattle.all_schedules.specs.Drawn.{DrivesDrawn, drawn, most_turns}
@@ -57,9 +58,9 @@ module _ {S : Type 0} (starts : LoadedImage → ℕ → S → Type 0) (makes : S
       one.stepped two.stepped in
       (sym two.history_is ∙ (run.twins.books.history ∙ one.history_is), run.text_is)
 
-  pub even_history_fixed : RunIsFixed makes alike view waits → EvenHistoryIsFixed starts makes view waits
-  even_history_fixed law holding l schedule schedule' result result' history history' done done' one two =
-      let run = law holding at_first (driver one.makes.first no_counts) one.makes.last (driver two.makes.first no_counts) two.makes.last schedule schedule' result result'
+  pub even_history_fixed : (prices : S → Prices) (keeps : S → Type 0) → RunIsFixed makes alike view waits prices keeps → EvenHistoryIsFixed starts makes view waits prices keeps
+  even_history_fixed prices keeps law holding queues costs l schedule schedule' result result' history history' done done' one two =
+      let run = law holding (is_some costs && queues) costs at_first (driver one.makes.first no_counts) one.makes.last (driver two.makes.first no_counts) two.makes.last schedule schedule' result result'
       (new_twins l one.makes.first two.makes.first one.makes.is_new two.makes.is_new) one.evenly two.evenly done done' in
       record { result_is = run.result_is; schedule_is = run.schedule_is; history_is = sym two.makes.history_is ∙ (run.twins.books.history ∙ one.makes.history_is) }
 

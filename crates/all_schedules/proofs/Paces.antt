@@ -1,5 +1,5 @@
 -- What a run of a text by a pace comes to, from what it comes to for its image.
-use Rattle.std.proofs.Common.{◌≡◌, ℕ, ◌+◌, List, [], Option, Some, None, Result, Ok, MatchResult, refl, sym, subst, arith}
+use Rattle.std.proofs.Common.{◌≡◌, ℕ, ◌+◌, List, [], Option, Some, None, Result, Ok, MatchResult, false, refl, sym, subst, arith}
 use Rattle.rv32_image.specs.declared.fault.ImageFault.{ImageFault}
 use Rattle.rv32_image.specs.declared.fault.ImageFaultKind.{ImageFaultKind}
 use Rattle.rv32_image.specs.declared.fault.ImageFaultKind.TheVariants as kind
@@ -20,25 +20,28 @@ use Rattle.all_schedules.specs.Settings.{loop_with}
 use Rattle.homefree.specs.declared.book.Loop.{Loop}
 use Rattle.homefree.specs.declared.fault.TurnFault.TheVariants as fault
 use Rattle.trace_commands.specs.declared.outcome.CommandStop.{CommandStop}
+use Rattle.turn_costs.specs.declared.costs.Costs.{Costs}
+use Rattle.turn_costs.specs.Prices.{Prices}
+use Rattle.even_speed.specs.Even.{pacing}
 use Rattle.even_speed.specs.Held.{Holding, loads_at}
 use Rattle.all_schedules.specs.Evenly.{IsEvenFault, MakesEvenly}
 use Rattle.all_schedules.specs.Holding.{WaitsInOrder}
-use Rattle.all_schedules.specs.Paced.{IsHoldingStop, IsHoldingText, IsPacedOf, IsPacedOutcome, IsPacedStop, IsPacedText}
+use Rattle.all_schedules.specs.Paced.{IsEvenStop, IsEvenText, IsPacedOf, IsPacedOutcome, IsPacedStop, IsPacedText, none_waits}
 use Rattle.all_schedules.specs.declared.holds.Pieces.{Pieces}
 use Rattle.all_schedules.specs.declared.paced.Pace.{Pace}
 use Rattle.all_schedules.specs.declared.paced.Pace.TheVariants.{Even, Held}
 
-module _ {S : Type 0} (starts : LoadedImage → ℕ → S → Type 0) (makes : S → Call → S → Type 0) (view : S → StoreView) (waits : S → Waits) (addresses : List ℕ) (pace : Pace) (cores : ℕ) (settings : Settings) (text : List ℕ) where
+module _ {S : Type 0} (starts : LoadedImage → ℕ → S → Type 0) (makes : S → Call → S → Type 0) (view : S → StoreView) (waits : S → Waits) (prices : S → Prices) (keeps : S → Type 0) (addresses : List ℕ) (pace : Pace) (cores : ℕ) (settings : Settings) (text : List ℕ) where
   pub paced_of_image : (image : LoadedImage) (old new : Option (List ℕ)) → image_text text ≡ Ok image → (outcome : Outcome)
-      → IsPacedOf starts makes view waits addresses pace (loop_with image cores settings) old new outcome → IsPacedOutcome starts makes view waits addresses pace cores settings text old new outcome
+      → IsPacedOf starts makes view waits prices keeps addresses pace (loop_with image cores settings) old new outcome → IsPacedOutcome starts makes view waits prices keeps addresses pace cores settings text old new outcome
   paced_of_image image old new said (BadImage fault) is = absurd is
   paced_of_image image old new said (Stopped cause.NoMemory) is = is.1
   paced_of_image image old new said outcome is =
-      subst (λ (r : Result LoadedImage ImageFault). MatchResult r (λ i. IsPacedOf starts makes view waits addresses pace (loop_with i cores settings) old new outcome) (λ fault. ⊥)) (sym said) is
+      subst (λ (r : Result LoadedImage ImageFault). MatchResult r (λ i. IsPacedOf starts makes view waits prices keeps addresses pace (loop_with i cores settings) old new outcome) (λ fault. ⊥)) (sym said) is
 
   -- the image is refused
   pub paced_refused : (output : Option (List ℕ)) (line : ℕ) (kind : ImageFaultKind) → IsReadFaultOf kind (record { line = line; kind = kind }) (image_text text)
-      → IsPacedOutcome starts makes view waits addresses pace cores settings text output output (outcome_of_fault kind (record { line = line; kind = kind }))
+      → IsPacedOutcome starts makes view waits prices keeps addresses pace cores settings text output output (outcome_of_fault kind (record { line = line; kind = kind }))
   paced_refused output line kind.NoMemory is = keeps_itself output
   paced_refused output line other is = (is, keeps_itself output)
 
@@ -48,45 +51,46 @@ pub none_taken : (known : Option (List ℕ)) → TakesAtMost known known (longes
 none_taken None = ([], tt, omega arith)
 none_taken (Some text) = ([], refl, omega arith)
 
-module _ {S : Type 0} (starts : LoadedImage → ℕ → S → Type 0) (makes : S → Call → S → Type 0) (view : S → StoreView) (waits : S → Waits) (addresses : List ℕ) (pace : Pace) (cores : ℕ) (settings : Settings)
+module _ {S : Type 0} (starts : LoadedImage → ℕ → S → Type 0) (makes : S → Call → S → Type 0) (view : S → StoreView) (waits : S → Waits) (prices : S → Prices) (keeps : S → Type 0) (addresses : List ℕ) (pace : Pace) (cores : ℕ) (settings : Settings)
   where
     stopped : (text : List ℕ) (output : Option (List ℕ)) (errors : Stream) (status : ℕ) → status ≡ status_of (Stopped cause.NoMemory) → AppendsPrefix errors.old errors.new (error_line (Stopped cause.NoMemory))
-        → Conclusion (IsPacedOutcome starts makes view waits addresses pace cores settings text output output) errors.old errors.new status
+        → Conclusion (IsPacedOutcome starts makes view waits prices keeps addresses pace cores settings text output output) errors.old errors.new status
     stopped text output errors status is line = record { outcome = Stopped cause.NoMemory; output = keeps_itself output; status = is; line = line }
 
     pub no_memory : (input output : Option (List ℕ)) (errors : Stream) (status : ℕ) → status ≡ status_of (Stopped cause.NoMemory)
         → AppendsPrefix errors.old errors.new (error_line (Stopped cause.NoMemory))
-        → ForText input (λ text. Conclusion (IsPacedOutcome starts makes view waits addresses pace cores settings text output output) errors.old errors.new status)
+        → ForText input (λ text. Conclusion (IsPacedOutcome starts makes view waits prices keeps addresses pace cores settings text output output) errors.old errors.new status)
     no_memory None output errors status is line = ([], stopped [] output errors status is line)
     no_memory (Some text) output errors status is line = stopped text output errors status is line
 
 -- ---- at even speed
 
-module _ {S : Type 0} (starts : LoadedImage → ℕ → S → Type 0) (makes : S → Call → S → Type 0) (view : S → StoreView) (waits : S → Waits) (addresses : List ℕ) (l : Loop) where
+module _ {S : Type 0} (starts : LoadedImage → ℕ → S → Type 0) (makes : S → Call → S → Type 0) (view : S → StoreView) (waits : S → Waits) (prices : S → Prices) (keeps : S → Type 0) (addresses : List ℕ) (l : Loop) where
   -- where the loads at addresses wait
-  pub even_text : (h : Holding) (outcome : Outcome) (text : List ℕ) → h ≡ loads_at addresses → IsHoldingText starts makes view waits h l outcome text
-      → IsPacedText starts makes view waits addresses Even l outcome text
-  even_text h outcome text is shown = record {
+  pub even_text : (costs : Option Costs) (h : Holding) (outcome : Outcome) (text : List ℕ) → h ≡ loads_at addresses
+      → IsEvenText starts makes view waits keeps (pacing prices h (none_waits addresses) costs) l outcome text → IsPacedText starts makes view waits prices keeps addresses (Even costs) l outcome text
+  even_text costs h outcome text is shown = record {
     schedule = shown.schedule;
     history = shown.history;
-    makes = (shown.ran, subst (λ x. MakesEvenly starts makes view waits x l shown.schedule (Ok (Some shown.ran)) shown.history) is shown.makes);
+    makes = (shown.ran, subst (λ x. MakesEvenly starts makes view waits keeps (pacing prices x (none_waits addresses) costs) l shown.schedule (Ok (Some shown.ran)) shown.history) is shown.makes);
     below = shown.below;
     shown = shown.shown;
     text_is = shown.text_is;
   }
 
-  pub even_stop : (h : Holding) (cause : CommandStop) → h ≡ loads_at addresses → IsHoldingStop starts makes view waits h l cause → IsPacedStop starts makes view waits addresses Even l cause
-  even_stop h cause.HistoryFull is stop = subst (λ x. IsEvenFault starts makes view waits x l fault.HistoryFull) is stop
-  even_stop h cause.NoMemory is stop = tt
-  even_stop h cause.Write is stop = stop
-  even_stop h cause.NoThread is stop = stop
-  even_stop h cause.Spent is stop = stop
-  even_stop h cause.Shut is stop = stop
+  pub even_stop : (costs : Option Costs) (h : Holding) (cause : CommandStop) → h ≡ loads_at addresses → IsEvenStop starts makes view waits keeps (pacing prices h (none_waits addresses) costs) l cause
+      → IsPacedStop starts makes view waits prices keeps addresses (Even costs) l cause
+  even_stop costs h cause.HistoryFull is stop = subst (λ x. IsEvenFault starts makes view waits keeps (pacing prices x (none_waits addresses) costs) l fault.HistoryFull) is stop
+  even_stop costs h cause.NoMemory is stop = tt
+  even_stop costs h cause.Write is stop = stop
+  even_stop costs h cause.NoThread is stop = stop
+  even_stop costs h cause.Spent is stop = stop
+  even_stop costs h cause.Shut is stop = stop
 
   -- where loads wait for what earlier epochs store
-  pub held_text : (pieces : Pieces) (h : Holding) (outcome : Outcome) (text : List ℕ) → WaitsInOrder l.image pieces h → IsHoldingText starts makes view waits h l outcome text
-      → IsPacedText starts makes view waits addresses (Held pieces) l outcome text
-  held_text pieces h outcome text held shown = record {
+  pub held_text : (pieces : Pieces) (costs : Option Costs) (h : Holding) (outcome : Outcome) (text : List ℕ) → WaitsInOrder l.image pieces h
+      → IsEvenText starts makes view waits keeps (pacing prices h false costs) l outcome text → IsPacedText starts makes view waits prices keeps addresses (Held pieces costs) l outcome text
+  held_text pieces costs h outcome text held shown = record {
     schedule = shown.schedule;
     history = shown.history;
     makes = (h, held, shown.ran, shown.makes);
@@ -95,11 +99,11 @@ module _ {S : Type 0} (starts : LoadedImage → ℕ → S → Type 0) (makes : S
     text_is = shown.text_is;
   }
 
-  pub held_stop : (pieces : Pieces) (h : Holding) (cause : CommandStop) → WaitsInOrder l.image pieces h → IsHoldingStop starts makes view waits h l cause
-      → IsPacedStop starts makes view waits addresses (Held pieces) l cause
-  held_stop pieces h cause.HistoryFull held stop = (h, held, stop)
-  held_stop pieces h cause.NoMemory held stop = tt
-  held_stop pieces h cause.Write held stop = stop
-  held_stop pieces h cause.NoThread held stop = stop
-  held_stop pieces h cause.Spent held stop = stop
-  held_stop pieces h cause.Shut held stop = stop
+  pub held_stop : (pieces : Pieces) (costs : Option Costs) (h : Holding) (cause : CommandStop) → WaitsInOrder l.image pieces h
+      → IsEvenStop starts makes view waits keeps (pacing prices h false costs) l cause → IsPacedStop starts makes view waits prices keeps addresses (Held pieces costs) l cause
+  held_stop pieces costs h cause.HistoryFull held stop = (h, held, stop)
+  held_stop pieces costs h cause.NoMemory held stop = tt
+  held_stop pieces costs h cause.Write held stop = stop
+  held_stop pieces costs h cause.NoThread held stop = stop
+  held_stop pieces costs h cause.Spent held stop = stop
+  held_stop pieces costs h cause.Shut held stop = stop

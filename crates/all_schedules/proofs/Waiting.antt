@@ -5,7 +5,7 @@ use Rattle.std.specs.List.{drop-map, take-map}
 use Rattle.trace_text.specs.TraceText.{◌>>=◌}
 use Rattle.all_schedules.specs.declared.words.Request.{Request}
 use Rattle.all_schedules.specs.Addresses.{addresses_of, wait_place, waits_in}
-use Rattle.all_schedules.specs.Asked.{Asked, asked_in, asked_with, is_even, request_in}
+use Rattle.all_schedules.specs.Asked.{Asked, asked_before_costs, asked_with, is_even, request_in}
 
 abbrev asks : Option (List ℕ) → Option Request → Option Asked
 asks waits request = waits >>= λ addresses. request >>= asked_with addresses
@@ -14,12 +14,12 @@ none_by : (waits : Option (List ℕ)) → asks waits None ≡ None
 none_by (Some addresses) = refl
 none_by None = refl
 
-asked_by : (words : List (List ℕ)) → asked_in words ≡ asks (waits_in (drop (wait_place words) words)) (request_in (take (wait_place words) words))
-unfolding asked_in
+asked_by : (words : List (List ℕ)) → asked_before_costs words ≡ asks (waits_in (drop (wait_place words) words)) (request_in (take (wait_place words) words))
+unfolding asked_before_costs
 asked_by words = refl
 
 parts : {A : Type 0} (text : A → List ℕ) (words before behind : List A) (place : ℕ) → place ≡ wait_place (map text words) → before ≡ take place words → behind ≡ drop place words
-    → asked_in (map text words) ≡ asks (waits_in (map text behind)) (request_in (map text before))
+    → asked_before_costs (map text words) ≡ asks (waits_in (map text behind)) (request_in (map text before))
 parts text words before behind place at front back =
     let behind_is : map text behind ≡ drop (wait_place (map text words)) (map text words) = ap (map text) back ∙ (sym (drop-map text place words) ∙ ap (λ n. drop n (map text words)) at) in
     let before_is : map text before ≡ take (wait_place (map text words)) (map text words) = ap (map text) front ∙ (sym (take-map text place words) ∙ ap (λ n. take n (map text words)) at) in
@@ -29,16 +29,16 @@ parts text words before behind place at front back =
 -- a request, with these addresses
 is_asked : {A : Type 0} (text : A → List ℕ) (words before behind : List A) (place : ℕ) → place ≡ wait_place (map text words) → before ≡ take place words → behind ≡ drop place words
     → (addresses : List ℕ) (request : Request) → waits_in (map text behind) ≡ Some addresses → request_in (map text before) ≡ Some request
-    → asked_in (map text words) ≡ asked_with addresses request
+    → asked_before_costs (map text words) ≡ asked_with addresses request
 is_asked text words before behind place at front back addresses request waits found =
     parts text words before behind place at front back ∙ (ap (λ w. asks w (request_in (map text before))) waits ∙ ap (asks (Some addresses)) found)
 
 pub no_waits : {A : Type 0} (text : A → List ℕ) (words before behind : List A) (place : ℕ) → place ≡ wait_place (map text words) → before ≡ take place words → behind ≡ drop place words
-    → waits_in (map text behind) ≡ None → asked_in (map text words) ≡ None
+    → waits_in (map text behind) ≡ None → asked_before_costs (map text words) ≡ None
 no_waits text words before behind place at front back none = parts text words before behind place at front back ∙ ap (λ w. asks w (request_in (map text before))) none
 
 pub no_request : {A : Type 0} (text : A → List ℕ) (words before behind : List A) (place : ℕ) → place ≡ wait_place (map text words) → before ≡ take place words → behind ≡ drop place words
-    → request_in (map text before) ≡ None → asked_in (map text words) ≡ None
+    → request_in (map text before) ≡ None → asked_before_costs (map text words) ≡ None
 no_request text words before behind place at front back none =
     parts text words before behind place at front back ∙ (ap (asks (waits_in (map text behind))) none ∙ none_by (waits_in (map text behind)))
 
@@ -65,13 +65,13 @@ refused text (word ∷ waits) request may =
 
 pub may_wait : {A : Type 0} (text : A → List ℕ) (words before behind waits : List A) (place : ℕ) → place ≡ wait_place (map text words) → before ≡ take place words → behind ≡ drop place words
     → (request : Request) → waits_in (map text behind) ≡ Some (addresses_of (map text waits)) → request_in (map text before) ≡ Some request → ((length waits == 0) || is_even request.turns) ≡ true
-    → asked_in (map text words) ≡ Some (record { request = request; addresses = addresses_of (map text waits) })
+    → asked_before_costs (map text words) ≡ Some (record { request = request; addresses = addresses_of (map text waits) })
 may_wait text words before behind waits place at front back request found is may =
     is_asked text words before behind place at front back (addresses_of (map text waits)) request found is ∙ allowed text waits request may
 
 pub may_not : {A : Type 0} (text : A → List ℕ) (words before behind waits : List A) (place : ℕ) → place ≡ wait_place (map text words) → before ≡ take place words → behind ≡ drop place words
     → (request : Request) → waits_in (map text behind) ≡ Some (addresses_of (map text waits)) → request_in (map text before) ≡ Some request → ((length waits == 0) || is_even request.turns) ≡ false
-    → asked_in (map text words) ≡ None
+    → asked_before_costs (map text words) ≡ None
 may_not text words before behind waits place at front back request found is may =
     is_asked text words before behind place at front back (addresses_of (map text waits)) request found is ∙ refused text waits request may
 

@@ -9,6 +9,8 @@ use Rattle.trace_text.specs.TraceText.{◌>>=◌}
 use Rattle.trace_commands.specs.Program.{number_up_to_16, only_up_to_16}
 use Rattle.all_schedules.specs.Holding.{pieces_of}
 use Rattle.all_schedules.specs.Addresses.{wait_place, waits_in}
+use Rattle.all_schedules.specs.CostWords.{costs_behind}
+use Rattle.turn_costs.specs.declared.costs.Costs.{Costs}
 use Rattle.all_schedules.specs.declared.detail.Detail.{Detail}
 use Rattle.all_schedules.specs.declared.detail.Detail.TheVariants.{Whole, Steps}
 use Rattle.all_schedules.specs.declared.paced.Pace.{Pace}
@@ -64,7 +66,7 @@ held [] = None
 held (name ∷ words) = do
   cores ← only_up_to_16 words
   store ← store_named name
-  over name (Paced (Held (pieces_of store)) cores)
+  over name (Paced (Held (pieces_of store) None) cores)
 
 -- `threads STORE CORES`: a run on threads
 unfoldable pub threaded : List (List ℕ) → Option Request
@@ -96,7 +98,7 @@ every words = None
 unfoldable pub command : List ℕ → List (List ℕ) → Option Request
 command word words =
     if bytes_eq word (codes "steps") then steps words
-    else if bytes_eq word (codes "even") then paced Even words
+    else if bytes_eq word (codes "even") then paced (Even None) words
     else if bytes_eq word (codes "held") then held words
     else if bytes_eq word (codes "seeded") then seeded words
     else if bytes_eq word (codes "all") then every words
@@ -118,8 +120,8 @@ pub record Asked : Type 0 where
 abbrev pub is_even : Turns → Bool
 is_even (Given detail cores) = false
 is_even (Every cores turns) = false
-is_even (Paced Even cores) = true
-is_even (Paced (Held pieces) cores) = false
+is_even (Paced (Even costs) cores) = true
+is_even (Paced (Held pieces costs) cores) = false
 is_even (Paced (Seeded seed) cores) = false
 is_even (Threaded cores) = false
 
@@ -129,8 +131,34 @@ asked_with [] request = Some (record { request = request; addresses = [] })
 asked_with (address ∷ addresses) request = if is_even request.turns then Some (record { request = request; addresses = address ∷ addresses }) else None
 
 -- the command, with `--wait PC ..` behind it or without
-unfoldable pub asked_in : List (List ℕ) → Option Asked
-asked_in words = do
+unfoldable pub asked_before_costs : List (List ℕ) → Option Asked
+asked_before_costs words = do
   addresses ← waits_in (drop (wait_place words) words)
   request ← request_in (take (wait_place words) words)
   asked_with addresses request
+
+-- ---- what turns cost
+
+-- only at even speed does a turn cost something
+abbrev pub paced_with : Costs → Pace → Option Pace
+paced_with costs (Even before) = Some (Even (Some costs))
+paced_with costs (Held pieces before) = Some (Held pieces (Some costs))
+paced_with costs (Seeded seed) = None
+
+abbrev pub turns_with : Costs → Turns → Option Turns
+turns_with costs (Paced pace cores) = paced_with costs pace >>= λ now. Some (Paced now cores)
+turns_with costs (Given detail cores) = None
+turns_with costs (Every cores turns) = None
+turns_with costs (Threaded cores) = None
+
+abbrev pub with_costs : Option Costs → Turns → Option Turns
+with_costs (Some costs) turns = turns_with costs turns
+with_costs None turns = Some turns
+
+-- the command, with costs behind all other words or without
+unfoldable pub asked_in : List (List ℕ) → Option Asked
+asked_in words = do
+  behind ← costs_behind words
+  asked ← asked_before_costs behind.words
+  turns ← with_costs behind.costs asked.request.turns
+  Some (record { request = record { store = asked.request.store; turns = turns }; addresses = asked.addresses })

@@ -1,6 +1,6 @@
 -- That what a schedule makes is fixed by the loop, the schedule and the store's rules.
 -- Source: this project.
-use Rattle.std.specs.Prelude.{◌≡◌, ◌≢◌, ℕ, List, Option, Result, Err}
+use Rattle.std.specs.Prelude.{◌≡◌, ◌≢◌, ℕ, Bool, List, Option, Result, Err}
 use Rattle.rv32_image.specs.Image.{LoadedImage}
 use Rattle.rv32_exec.specs.declared.sequential.End.{End}
 use Rattle.spec_history.specs.declared.entry.Entry.{Entry}
@@ -13,7 +13,10 @@ use Rattle.homefree.specs.Driven.{Driver}
 use Rattle.homefree.specs.DriveFixed.{AreTwinDrivers}
 use Rattle.even_speed.specs.declared.run.Ran.{Ran}
 use Rattle.even_speed.specs.Fixed.{IsDone}
+use Rattle.even_speed.specs.Even.{pacing}
 use Rattle.even_speed.specs.Held.{Holding}
+use Rattle.turn_costs.specs.declared.costs.Costs.{Costs}
+use Rattle.turn_costs.specs.Prices.{Prices}
 use Rattle.all_schedules.specs.Drawn.{MakesDrawn}
 use Rattle.all_schedules.specs.Evenly.{MakesEvenly}
 use Rattle.all_schedules.specs.Made.{Makes}
@@ -47,10 +50,11 @@ pub record IsOneRun {A : Type 0} (result result' : Result (Option A) TurnFault) 
   pub history_is : history' ≡ history
 
 -- so do the runs at even speed each time, where they aren't stopped
-abbrev pub EvenHistoryIsFixed : {S : Type 0} → (LoadedImage → ℕ → S → Type 0) → (S → Call → S → Type 0) → (S → StoreView) → (S → Waits) → Type 0
-EvenHistoryIsFixed starts makes view waits =
-    (holding : Holding) (l : Loop) (schedule schedule' : List ℕ) (result result' : Result (Option Ran) TurnFault) (history history' : List Entry) → IsDone result → IsDone result'
-    → MakesEvenly starts makes view waits holding l schedule result history → MakesEvenly starts makes view waits holding l schedule' result' history'
+abbrev pub EvenHistoryIsFixed : {S : Type 0} → (LoadedImage → ℕ → S → Type 0) → (S → Call → S → Type 0) → (S → StoreView) → (S → Waits) → (S → Prices) → (S → Type 0) → Type 0
+EvenHistoryIsFixed starts makes view waits prices keeps =
+    (holding : Holding) (queues : Bool) (costs : Option Costs) (l : Loop) (schedule schedule' : List ℕ) (result result' : Result (Option Ran) TurnFault) (history history' : List Entry) → IsDone result → IsDone result'
+    → MakesEvenly starts makes view waits keeps (pacing prices holding queues costs) l schedule result history
+    → MakesEvenly starts makes view waits keeps (pacing prices holding queues costs) l schedule' result' history'
     → IsOneRun result result' schedule schedule' history history'
 
 -- and the runs that a seed draws, unless memory runs out

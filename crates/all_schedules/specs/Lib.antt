@@ -20,6 +20,7 @@ pub mod AllSchedules
 pub mod Paced
 -- What the words of a command line ask for, and what the program answers them.
 pub mod Addresses
+pub mod CostWords
 pub mod Asked
 pub mod Work
 -- What the code finds.

@@ -9,6 +9,7 @@ use Rattle.violations.specs.Plain as plain
 use Rattle.spec_bus.specs.Cached as caches
 use Rattle.spec_bus.specs.Laws as cache
 use Rattle.homefree.specs.Missed.{IsOfCaches}
+use Rattle.turn_costs.specs.Prices.{Prices, bus_prices, no_prices}
 use Rattle.trace_text.specs.TraceText.{longest_trace_text}
 use Rattle.turn_steps.specs.Caches.{cached_changes}
 use Rattle.turn_steps.specs.KeptCores.{plain_changes}
@@ -41,16 +42,16 @@ options_of settings cores = record { cores = cores; room = settings.room; trace 
 
 -- over a store: the trace or the schedule of the input was replayed, every schedule of so many turns was driven, or the run was by
 -- this pace or on threads; and of the input no more than it may be long, and one byte, was taken
-abbrev pub TurnsAnswer : {S : Type 0} → (LoadedImage → ℕ → S → Type 0) → (S → Call → S → Type 0) → (S → StoreView) → (S → Waits) → (ℕ → S → S → List ℕ) → List ℕ → Settings → Turns → List ℕ → Stream → Stream → Stream → ℕ → Type 0
-TurnsAnswer starts makes view waits changes addresses settings (Given detail cores) text input output errors status =
+abbrev pub TurnsAnswer : {S : Type 0} → (LoadedImage → ℕ → S → Type 0) → (S → Call → S → Type 0) → (S → StoreView) → (S → Waits) → (S → Prices) → (S → Type 0) → (ℕ → S → S → List ℕ) → List ℕ → Settings → Turns → List ℕ → Stream → Stream → Stream → ℕ → Type 0
+TurnsAnswer starts makes view waits prices keeps changes addresses settings (Given detail cores) text input output errors status =
     Conclusion (IsReplayOutcome starts makes view waits (IsHead starts makes view waits changes detail) cores settings text output.old output.new) errors.old errors.new status
     × TakesAtMost input.old input.new (longest_trace_text + 1)
-TurnsAnswer starts makes view waits changes addresses settings (Every cores turns) text input output errors status =
+TurnsAnswer starts makes view waits prices keeps changes addresses settings (Every cores turns) text input output errors status =
     AllAnswers starts makes view waits cores settings turns text output errors status × TakesAtMost input.old input.new (longest_image_text + 1)
-TurnsAnswer starts makes view waits changes addresses settings (Paced pace cores) text input output errors status =
-    Conclusion (IsPacedOutcome starts makes view waits addresses pace cores settings text output.old output.new) errors.old errors.new status
+TurnsAnswer starts makes view waits prices keeps changes addresses settings (Paced pace cores) text input output errors status =
+    Conclusion (IsPacedOutcome starts makes view waits prices keeps addresses pace cores settings text output.old output.new) errors.old errors.new status
     × TakesAtMost input.old input.new (longest_image_text + 1)
-TurnsAnswer starts makes view waits changes addresses settings (Threaded cores) text input output errors status =
+TurnsAnswer starts makes view waits prices keeps changes addresses settings (Threaded cores) text input output errors status =
     Conclusion (IsThreadsOutcome (IsOfCaches view) settings.asked (options_of settings cores) text output.old output.new) errors.old errors.new status
     × TakesAtMost input.old input.new (longest_image_text + 1)
 
@@ -59,8 +60,8 @@ abbrev pub settings_of : Store → ℕ → Settings
 settings_of store room = record { asked = asked_by store; room = room }
 
 abbrev pub StoreAnswers : Store → List ℕ → ℕ → Turns → List ℕ → Stream → Stream → Stream → ℕ → Type 0
-StoreAnswers (Caches asked) addresses room turns text input output errors status = TurnsAnswer cache.Starts cache.Makes caches.store_view caches.waits cached_changes addresses (settings_of (Caches asked) room) turns text input output errors status
-StoreAnswers Plain addresses room turns text input output errors status = TurnsAnswer plain.Starts plain.Makes plain.store_view (λ _. never_waits) plain_changes addresses (settings_of Plain room) turns text input output errors status
+StoreAnswers (Caches asked) addresses room turns text input output errors status = TurnsAnswer cache.Starts cache.Makes caches.store_view caches.waits bus_prices (λ v. (k : ℕ) → cache.IsPlacedCore v.cores k) cached_changes addresses (settings_of (Caches asked) room) turns text input output errors status
+StoreAnswers Plain addresses room turns text input output errors status = TurnsAnswer plain.Starts plain.Makes plain.store_view (λ _. never_waits) (λ _. no_prices) (λ _. Unit {0}) plain_changes addresses (settings_of Plain room) turns text input output errors status
 
 -- a request was answered, where the loads at these addresses wait; or, where the words ask for nothing, `usage`
 abbrev pub AskedAnswers : Option Asked → ℕ → List ℕ → Stream → Stream → Stream → ℕ → Type 0

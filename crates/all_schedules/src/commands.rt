@@ -22,6 +22,7 @@ use std::io::{Read, Write};
 use std::sync::Wait;
 use std::thread::Threads;
 use trace_commands::{CommandStop, MachineAsked, Outcome, Store};
+use turn_costs::PricedStore;
 use turn_steps::ShownStore;
 use violations::PlainStore;
 
@@ -84,7 +85,15 @@ pub fn work<S: AsStr, G: Gate, T: Threads + Wait + Sync, R: Read, W: Write, E: W
 }
 
 /// Takes these turns over this store.
-fn answer<S: ShownStore, A: AsStr, G: Gate, T: Threads + Wait + Sync, R: Read, W: Write, E: Write>(
+fn answer<
+    S: ShownStore + PricedStore,
+    A: AsStr,
+    G: Gate,
+    T: Threads + Wait + Sync,
+    R: Read,
+    W: Write,
+    E: Write,
+>(
     rt: &T,
     alloc: Global,
     waits: &[A],
@@ -98,7 +107,7 @@ fn answer<S: ShownStore, A: AsStr, G: Gate, T: Threads + Wait + Sync, R: Read, W
     requires turns { spec.AreTurns turns }
     requires least { 16 ≤ settings.room }
     requires most { settings.room ≤ 1048576 }
-    ensures { ForText (R.remaining reader.old) (λ text. spec.TurnsAnswer S.starts S.makes S.view S.waits S.changes (addresses_of (map A.text waits.now)) settings turns text
+    ensures { ForText (R.remaining reader.old) (λ text. spec.TurnsAnswer S.starts S.makes S.view S.waits S.prices S.keeps S.changes (addresses_of (map A.text waits.now)) settings turns text
         (record { old = R.remaining reader.old; new = R.remaining reader.new })
         (record { old = W.contents writer.old; new = W.contents writer.new })
         (record { old = E.contents errors.old; new = E.contents errors.new }) result) }
@@ -128,7 +137,7 @@ fn answer<S: ShownStore, A: AsStr, G: Gate, T: Threads + Wait + Sync, R: Read, W
 }
 
 /// What `do_paced` does where loads wait at the addresses that these words write.
-fn pace_waiting<S: ShownStore, A: AsStr, R: Read, W: Write, E: Write>(
+fn pace_waiting<S: PricedStore, A: AsStr, R: Read, W: Write, E: Write>(
     alloc: Global,
     waits: &[A],
     pace: Pace,
@@ -142,7 +151,7 @@ fn pace_waiting<S: ShownStore, A: AsStr, R: Read, W: Write, E: Write>(
     requires least { 16 ≤ settings.room }
     requires most { settings.room ≤ 1048576 }
     ensures outcome { ForText (R.remaining reader.old) (λ text.
-        Conclusion (IsPacedOutcome S.starts S.makes S.view S.waits (addresses_of (map A.text waits.now)) pace cores settings text (W.contents writer.old) (W.contents writer.new)) (E.contents errors.old) (E.contents errors.new) result) }
+        Conclusion (IsPacedOutcome S.starts S.makes S.view S.waits S.prices S.keeps (addresses_of (map A.text waits.now)) pace cores settings text (W.contents writer.old) (W.contents writer.new)) (E.contents errors.old) (E.contents errors.new) result) }
     ensures taken { TakesAtMost (R.remaining reader.old) (R.remaining reader.new) (longest_image_text + 1) }
 {
     match addresses_of(alloc, waits) {

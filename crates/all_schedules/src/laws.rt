@@ -6,6 +6,7 @@ ghost use Rattle.all_schedules.specs.Traced.{IsMadeAgain, Parts};
 
 use even_speed::run_is_fixed;
 use homefree::{Book, drive_is_fixed};
+use turn_costs::PricedStore;
 use turn_steps::{ShownStore, steps_are_fixed};
 use violations::EpochStore;
 
@@ -37,10 +38,10 @@ pub fn text_is_fixed<S: ShownStore>()
     steps_are_fixed::<S>();
 }
 
-/// The run at even speed over a fresh store comes to the same each time, takes the same turns, and makes the same history, where it
+/// The run at even speed over a fresh store, on the same terms, comes to the same each time, takes the same turns, and makes the same history, where it
 /// isn't stopped.
-pub fn even_history_is_fixed<S: EpochStore>()
-    ensures { EvenHistoryIsFixed S.starts S.makes S.view S.waits }
+pub fn even_history_is_fixed<S: PricedStore>()
+    ensures { EvenHistoryIsFixed S.starts S.makes S.view S.waits S.prices S.keeps }
 {
     S::calls_are_fixed();
     run_is_fixed::<S>();

@@ -5,6 +5,7 @@
 mod addresses;
 mod all;
 mod commands;
+mod costs;
 mod detail;
 mod drawing;
 mod driving;
@@ -28,6 +29,7 @@ mod words;
 pub use addresses::{addresses_of, wait_place, wait_words};
 pub use all::do_all;
 pub use commands::work;
+pub use costs::{CostsAsked, costs_behind};
 pub use detail::Detail;
 pub use driving::drive_schedule;
 pub use even::{EvenRun, run_evenly};

@@ -5,7 +5,7 @@ ghost use Rattle.rv32_image.specs.ImageText.{longest_image_text};
 ghost use Rattle.rv32_image.specs.Reading.{ForText};
 ghost use Rattle.trace_commands.specs.Outcome.{Conclusion};
 ghost use Rattle.violations.specs.Rule.{IsCoreCount};
-ghost use Rattle.even_speed.specs.Holds.{holding_of};
+ghost use Rattle.even_speed.specs.Even.{pacing_of};
 ghost use Rattle.all_schedules.specs.Made.{loop_on};
 ghost use Rattle.all_schedules.specs.Settings.{loop_with};
 ghost use Rattle.all_schedules.specs.SurveyText.{turns_line};
@@ -18,33 +18,35 @@ use crate::print::print_book;
 use crate::seeded::run_seeded;
 use crate::settings::Settings;
 use crate::text::push_turns;
-use even_speed::Holds;
+use even_speed::Terms;
 use homefree::{Book, TurnFault};
 use run_command::runnable;
 use rv32_image::{Image, read_image};
 use std::alloc::{AllocError, Global};
 use std::io::{Read, Write};
 use trace_commands::{CommandStop, Outcome, write_whole};
+use turn_costs::{Costs, PricedStore};
 use violations::EpochStore;
 
 /// What says whose turn is next.
 #[derive(Clone, Copy, Debug, PartialEq, Eq)]
 pub enum Pace {
-    /// Even speed.
-    Even,
-    /// Even speed, where loads wait for what earlier epochs store in these pieces of memory in order.
-    Held(Pieces),
+    /// Even speed, where turns cost this, or nothing.
+    Even(Option<Costs>),
+    /// The same, where loads wait for what earlier epochs store in these pieces of memory in order.
+    Held(Pieces, Option<Costs>),
     /// What SplitMix64 draws from this seed.
     Seeded(u64),
 }
 
-/// Runs the image that the reader gives by this pace, at even speed with loads at these addresses of code that wait, over a fresh store, and writes the line of its turns, and below it what
-/// `do_replay` writes of them. The cores are at least 1, and the room is 16 to 1,048,576 entries.
+/// Runs the image that the reader gives by this pace, at even speed with loads at these addresses of code that wait, over a fresh store, and
+/// writes the line of its turns, and below it what `do_replay` writes of them. The cores are at least 1, and the room is 16 to 1,048,576
+/// entries.
 ///
 /// The status is 0 where the loop is done or exited, or the most turns were drawn before; 1 where an epoch faulted; 2 where the image,
 /// the machine or the number of cores is refused; 3 where the history is full, memory ran out or a write failed. With 2 and 3 one line on the error
 /// stream says which. All that is written was made before the first byte: after a failed write a prefix of it was written.
-pub fn do_paced<S: EpochStore, R: Read, W: Write, E: Write>(
+pub fn do_paced<S: PricedStore, R: Read, W: Write, E: Write>(
     alloc: Global,
     addresses: &[u32],
     pace: Pace,
@@ -58,14 +60,14 @@ pub fn do_paced<S: EpochStore, R: Read, W: Write, E: Write>(
     requires least { 16 ≤ settings.room }
     requires most { settings.room ≤ 1048576 }
     ensures outcome { ForText (R.remaining reader.old) (λ text.
-        Conclusion (spec.IsPacedOutcome S.starts S.makes S.view S.waits addresses.now pace cores settings text (W.contents writer.old) (W.contents writer.new)) (E.contents errors.old) (E.contents errors.new) result) }
+        Conclusion (spec.IsPacedOutcome S.starts S.makes S.view S.waits S.prices S.keeps addresses.now pace cores settings text (W.contents writer.old) (W.contents writer.new)) (E.contents errors.old) (E.contents errors.new) result) }
     ensures taken { TakesAtMost (R.remaining reader.old) (R.remaining reader.new) (longest_image_text + 1) }
 {
     paced_input::<S, R, W>(alloc, addresses, pace, cores, settings, reader, writer).conclude(errors)
 }
 
 /// Runs an input, all but its line on the error stream.
-fn paced_input<S: EpochStore, R: Read, W: Write>(
+fn paced_input<S: PricedStore, R: Read, W: Write>(
     alloc: Global,
     addresses: &[u32],
     pace: Pace,
@@ -78,7 +80,7 @@ fn paced_input<S: EpochStore, R: Read, W: Write>(
     requires least { 16 ≤ settings.room }
     requires most { settings.room ≤ 1048576 }
     ensures outcome { ForText (R.remaining reader.old) (λ text.
-        spec.IsPacedOutcome S.starts S.makes S.view S.waits addresses.now pace cores settings text (W.contents writer.old) (W.contents writer.new) result) }
+        spec.IsPacedOutcome S.starts S.makes S.view S.waits S.prices S.keeps addresses.now pace cores settings text (W.contents writer.old) (W.contents writer.new) result) }
     ensures taken { TakesAtMost (R.remaining reader.old) (R.remaining reader.new) (longest_image_text + 1) }
 {
     match read_image(alloc, reader) {
@@ -87,7 +89,7 @@ fn paced_input<S: EpochStore, R: Read, W: Write>(
     }
 }
 
-fn paced_image<S: EpochStore, W: Write>(
+fn paced_image<S: PricedStore, W: Write>(
     alloc: Global,
     addresses: &[u32],
     pace: Pace,
@@ -99,7 +101,7 @@ fn paced_image<S: EpochStore, W: Write>(
     requires cores { 1 ≤ cores }
     requires least { 16 ≤ settings.room }
     requires most { settings.room ≤ 1048576 }
-    ensures { spec.IsPacedOf S.starts S.makes S.view S.waits addresses.now pace (loop_with image cores settings) (W.contents writer.old) (W.contents writer.new) result }
+    ensures { spec.IsPacedOf S.starts S.makes S.view S.waits S.prices S.keeps addresses.now pace (loop_with image cores settings) (W.contents writer.old) (W.contents writer.new) result }
 {
     let Some(image) = runnable(image, settings.asked, cores) else {
         return Outcome::Usage;
@@ -123,7 +125,7 @@ fn paced_image<S: EpochStore, W: Write>(
 }
 
 /// Runs by this pace, and shows what the turns made.
-fn show_paced<S: EpochStore>(
+fn show_paced<S: PricedStore>(
     alloc: Global,
     addresses: &[u32],
     pace: Pace,
@@ -134,20 +136,21 @@ fn show_paced<S: EpochStore>(
     requires cores { IsCoreCount image.now cores }
     requires least { 16 ≤ room }
     requires most { room ≤ 1048576 }
-    ensures { MatchResult result (λ shown. spec.IsPacedText S.starts S.makes S.view S.waits addresses.now pace (loop_on image.now cores room) shown.0 shown.1.items)
-        (spec.IsPacedStop S.starts S.makes S.view S.waits addresses.now pace (loop_on image.now cores room)) }
+    ensures { MatchResult result (λ shown. spec.IsPacedText S.starts S.makes S.view S.waits S.prices S.keeps addresses.now pace (loop_on image.now cores room) shown.0 shown.1.items)
+        (spec.IsPacedStop S.starts S.makes S.view S.waits S.prices S.keeps addresses.now pace (loop_on image.now cores room)) }
 {
     match pace {
-        Pace::Even => show_even::<S>(alloc, addresses, image, cores, room),
-        Pace::Held(pieces) => show_held::<S>(alloc, pieces, image, cores, room),
+        Pace::Even(costs) => show_even::<S>(alloc, addresses, costs, image, cores, room),
+        Pace::Held(pieces, costs) => show_held::<S>(alloc, pieces, costs, image, cores, room),
         Pace::Seeded(seed) => show_seeded::<S>(alloc, seed, image, cores, room),
     }
 }
 
 /// Runs at even speed, and shows what the turns made.
-fn show_even<S: EpochStore>(
+fn show_even<S: PricedStore>(
     alloc: Global,
     addresses: &[u32],
+    costs: Option<Costs>,
     image: &Image,
     cores: u32,
     room: u32,
@@ -155,19 +158,25 @@ fn show_even<S: EpochStore>(
     requires cores { IsCoreCount image.now cores }
     requires least { 16 ≤ room }
     requires most { room ≤ 1048576 }
-    ensures { MatchResult result (λ shown. spec.IsPacedText S.starts S.makes S.view S.waits addresses.now Pace.Even (loop_on image.now cores room) shown.0 shown.1.items)
-        (spec.IsPacedStop S.starts S.makes S.view S.waits addresses.now Pace.Even (loop_on image.now cores room)) }
+    ensures { MatchResult result (λ shown. spec.IsPacedText S.starts S.makes S.view S.waits S.prices S.keeps addresses.now (Pace.Even costs) (loop_on image.now cores room) shown.0 shown.1.items)
+        (spec.IsPacedStop S.starts S.makes S.view S.waits S.prices S.keeps addresses.now (Pace.Even costs) (loop_on image.now cores room)) }
 {
     let Ok(holds) = holds_at(alloc, addresses) else {
         return Err(CommandStop::NoMemory);
     };
-    show_holding::<S>(alloc, &holds, image, cores, room)
+    let terms = Terms {
+        holds,
+        queues: addresses.is_empty(),
+        costs,
+    };
+    show_run::<S>(alloc, &terms, image, cores, room)
 }
 
 /// Runs at even speed, where loads wait for what earlier epochs store in order, and shows what the turns made.
-fn show_held<S: EpochStore>(
+fn show_held<S: PricedStore>(
     alloc: Global,
     pieces: Pieces,
+    costs: Option<Costs>,
     image: &Image,
     cores: u32,
     room: u32,
@@ -175,19 +184,24 @@ fn show_held<S: EpochStore>(
     requires cores { IsCoreCount image.now cores }
     requires least { 16 ≤ room }
     requires most { room ≤ 1048576 }
-    ensures { (addresses : List ℕ) → MatchResult result (λ shown. spec.IsPacedText S.starts S.makes S.view S.waits addresses (Pace.Held pieces) (loop_on image.now cores room) shown.0 shown.1.items)
-        (spec.IsPacedStop S.starts S.makes S.view S.waits addresses (Pace.Held pieces) (loop_on image.now cores room)) }
+    ensures { (addresses : List ℕ) → MatchResult result (λ shown. spec.IsPacedText S.starts S.makes S.view S.waits S.prices S.keeps addresses (Pace.Held pieces costs) (loop_on image.now cores room) shown.0 shown.1.items)
+        (spec.IsPacedStop S.starts S.makes S.view S.waits S.prices S.keeps addresses (Pace.Held pieces costs) (loop_on image.now cores room)) }
 {
     let Ok(holds) = holds_in_order(alloc, image, pieces) else {
         return Err(CommandStop::NoMemory);
     };
-    show_holding::<S>(alloc, &holds, image, cores, room)
+    let terms = Terms {
+        holds,
+        queues: false,
+        costs,
+    };
+    show_run::<S>(alloc, &terms, image, cores, room)
 }
 
-/// Runs at even speed, where these loads wait, and shows what the turns made.
-fn show_holding<S: EpochStore>(
+/// Runs at even speed, on these terms, and shows what the turns made.
+fn show_run<S: PricedStore>(
     alloc: Global,
-    holds: &Holds,
+    terms: &Terms,
     image: &Image,
     cores: u32,
     room: u32,
@@ -195,10 +209,10 @@ fn show_holding<S: EpochStore>(
     requires cores { IsCoreCount image.now cores }
     requires least { 16 ≤ room }
     requires most { room ≤ 1048576 }
-    ensures { MatchResult result (λ shown. spec.IsHoldingText S.starts S.makes S.view S.waits (holding_of holds.now) (loop_on image.now cores room) shown.0 shown.1.items)
-        (spec.IsHoldingStop S.starts S.makes S.view S.waits (holding_of holds.now) (loop_on image.now cores room)) }
+    ensures { MatchResult result (λ shown. spec.IsEvenText S.starts S.makes S.view S.waits S.keeps (pacing_of S.prices terms.now) (loop_on image.now cores room) shown.0 shown.1.items)
+        (spec.IsEvenStop S.starts S.makes S.view S.waits S.keeps (pacing_of S.prices terms.now) (loop_on image.now cores room)) }
 {
-    match run_evenly::<S>(alloc, image, cores, room, holds) {
+    match run_evenly::<S>(alloc, image, cores, room, terms) {
         Ok(made) => match print_turns(alloc, image, cores, made.schedule.as_slice(), &made.book) {
             Ok(shown) => Ok(shown),
             Err(AllocError) => Err(CommandStop::NoMemory),
@@ -209,7 +223,7 @@ fn show_holding<S: EpochStore>(
 }
 
 /// Takes the turns that the seed draws, and shows what the turns made.
-fn show_seeded<S: EpochStore>(
+fn show_seeded<S: PricedStore>(
     alloc: Global,
     seed: u64,
     image: &Image,
@@ -219,8 +233,8 @@ fn show_seeded<S: EpochStore>(
     requires cores { IsCoreCount image.now cores }
     requires least { 16 ≤ room }
     requires most { room ≤ 1048576 }
-    ensures { (addresses : List ℕ) → MatchResult result (λ shown. spec.IsPacedText S.starts S.makes S.view S.waits addresses (Pace.Seeded seed) (loop_on image.now cores room) shown.0 shown.1.items)
-        (spec.IsPacedStop S.starts S.makes S.view S.waits addresses (Pace.Seeded seed) (loop_on image.now cores room)) }
+    ensures { (addresses : List ℕ) → MatchResult result (λ shown. spec.IsPacedText S.starts S.makes S.view S.waits S.prices S.keeps addresses (Pace.Seeded seed) (loop_on image.now cores room) shown.0 shown.1.items)
+        (spec.IsPacedStop S.starts S.makes S.view S.waits S.prices S.keeps addresses (Pace.Seeded seed) (loop_on image.now cores room)) }
 {
     match run_seeded::<S>(alloc, image, cores, room, seed) {
         Ok(made) => match print_turns(alloc, image, cores, made.schedule.as_slice(), &made.book) {

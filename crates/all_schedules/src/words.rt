@@ -6,11 +6,13 @@ ghost use Rattle.all_schedules.specs.Asked as spec;
 ghost use Rattle.all_schedules.specs.Work.{AreTurns};
 
 use crate::addresses::{wait_place, wait_words};
+use crate::costs::costs_behind;
 use crate::detail::Detail;
 use crate::holds::pieces_of;
 use crate::paced::Pace;
 use std::convert::AsStr;
 use trace_commands::{Store, first_word, number_up_to_16, only_number, store_named};
+use turn_costs::Costs;
 
 /// Whose turns are taken, on 1 to 16 cores.
 #[derive(Clone, Copy, Debug, PartialEq, Eq)]
@@ -34,11 +36,60 @@ pub struct Request {
 
 /// What these words ask for, and the words of addresses at which loads wait; the first is the program's name. None: they are no command of
 /// the program.
+#[tactic(auto, unfolding(crate::specs::Asked::asked_in))]
 pub fn asked_of<S: AsStr>(words: &[S]) -> Option<(Request, &[S])>
     ensures asked { IfSome result (λ found. spec.asked_in (map S.text words.now)
         ≡ Some (record { request = found.0; addresses = addresses_of (map S.text found.1.now) })) }
     ensures turns { IfSome result (λ found. AreTurns found.0.turns) }
     ensures none { IfNone result (spec.asked_in (map S.text words.now) ≡ None) }
+{
+    let Some((costs, words)) = costs_behind(words) else {
+        return None;
+    };
+    let Some((request, waits)) = asked_before_costs(words) else {
+        return None;
+    };
+    let store = request.store;
+    let turns = with_costs(costs, request.turns)?;
+    Some((Request { store, turns }, waits))
+}
+
+/// These turns, where they cost this. None: only at even speed does a turn cost something.
+fn with_costs(costs: Option<Costs>, turns: Turns) -> Option<Turns>
+    requires { AreTurns turns }
+    ensures value { result ≡ spec.with_costs costs turns }
+    ensures turns { IfSome result AreTurns }
+{
+    let Some(costs) = costs else {
+        return Some(turns);
+    };
+    match turns {
+        Turns::Paced { pace, cores } => {
+            let pace = paced_with(costs, pace)?;
+            Some(Turns::Paced { pace, cores })
+        }
+        Turns::Given { .. } | Turns::Every { .. } | Turns::Threaded { .. } => None,
+    }
+}
+
+/// This pace, where turns cost this.
+fn paced_with(costs: Costs, pace: Pace) -> Option<Pace>
+    ensures { result ≡ spec.paced_with costs pace }
+{
+    let costs = Some(costs);
+    match pace {
+        Pace::Even(_) => Some(Pace::Even(costs)),
+        Pace::Held(pieces, _) => Some(Pace::Held(pieces, costs)),
+        Pace::Seeded(_) => None,
+    }
+}
+
+/// What these words ask for that say nothing of costs, and the words of addresses at which loads wait. None: they are no command of the program.
+fn asked_before_costs<S: AsStr>(words: &[S]) -> Option<(Request, &[S])>
+    ensures asked { IfSome result (λ found. spec.asked_before_costs (map S.text words.now)
+        ≡ Some (record { request = found.0; addresses = addresses_of (map S.text found.1.now) })) }
+    ensures turns { IfSome result (λ found. AreTurns found.0.turns) }
+    ensures none { IfNone result (spec.asked_before_costs (map S.text words.now) ≡ None) }
 {
     let (before, behind) = words.split_at(wait_place(words));
     let waits = wait_words(behind)?;
@@ -63,8 +114,8 @@ fn is_even(turns: Turns) -> bool
 {
     match turns {
         Turns::Paced { pace, cores: _ } => match pace {
-            Pace::Even => true,
-            Pace::Held(_) | Pace::Seeded(_) => false,
+            Pace::Even(_) => true,
+            Pace::Held(_, _) | Pace::Seeded(_) => false,
         },
         Turns::Given { .. } | Turns::Every { .. } | Turns::Threaded { .. } => false,
     }
@@ -90,7 +141,7 @@ fn command<S: AsStr>(word: &str, words: &[S]) -> Option<Request>
     if word == "steps" {
         steps(words)
     } else if word == "even" {
-        paced(Pace::Even, words)
+        paced(Pace::Even(None), words)
     } else if word == "held" {
         held(words)
     } else if word == "seeded" {
@@ -151,7 +202,7 @@ fn held<S: AsStr>(words: &[S]) -> Option<Request>
 {
     let (name, words) = first_word(words)?;
     let cores = only_number(words)?;
-    let pace = Pace::Held(pieces_of(store_named(name)?));
+    let pace = Pace::Held(pieces_of(store_named(name)?), None);
     over(name, Turns::Paced { pace, cores })
 }
 

@@ -29,6 +29,9 @@ use Rattle.even_speed.specs.declared.clock.Clock.{Clock}
 use Rattle.even_speed.specs.declared.clock.Next.{Next}
 use Rattle.even_speed.specs.declared.clock.Next.TheVariants.{Due, Waits, Gone}
 use Rattle.even_speed.specs.declared.clocks.Turn.{Turn}
+use Rattle.even_speed.specs.declared.pricing.Free.{Free}
+use Rattle.even_speed.specs.declared.pricing.Price.{Price}
+use Rattle.even_speed.specs.Account.{total}
 use Rattle.even_speed.specs.Clocks.{answered, due_of, dues, first_clock, late, late_clocks, waits_for, woken, woken_from}
 use Rattle.even_speed.specs.Held.{Holding, are_held, epoch_run, held_in, is_held, own_run}
 use Rattle.even_speed.specs.Even.{Pace, clocks_after, executed_by, restarts}
@@ -278,8 +281,8 @@ waits_undue OrbBusy at c = refl
 
 -- ---- a whole turn
 
-module _ {S : Type 0} (image : LoadedImage) (cores : ℕ) (s u : FlatState) (p : Pace) (old mid : Driver S) (t : Turn) (there : t.core < cores)
-    (due : due_of (p.clocks t.core).next ≡ Some t.at) (on : IsOnTime image (s.cores t.core) (p.held t.core) (p.clocks t.core)) (way : IsUnderWay image cores s p.clocks)
+module _ {S : Type 0} (costless : Bool) (image : LoadedImage) (cores : ℕ) (s u : FlatState) (p : Pace) (old mid : Driver S) (t : Turn) (there : t.core < cores)
+    (due : due_of (p.clocks t.core).next ≡ Some t.at) (on : IsOnTime costless image (s.cores t.core) (p.held t.core) (p.clocks t.core)) (way : IsUnderWay image cores s p.clocks)
     (taken before after : ℕ) (stopped : Option StopCause) (so_far : taken ≤ 17 * before + undue_of p.clocks cores) (most : cores ≤ 16) where
   pub record LastsOn (clocks' : ℕ → Clock) : Type 0 where
     pub under_way : IsUnderWay image cores u clocks'
@@ -288,7 +291,7 @@ module _ {S : Type 0} (image : LoadedImage) (cores : ℕ) (s u : FlatState) (p :
   more_entries : (clocks' : ℕ → Clock) → before < after → taken + 1 ≤ 17 * after + undue_of clocks' cores
   more_entries clocks' more = omega (arith, so_far, most, more, few_undue p.clocks cores)
 
-  in_hand : (was : Option CoreState) → IsOnTime image was (p.held t.core) (p.clocks t.core) → WasTold was (p.held t.core) → ⊥
+  in_hand : (was : Option CoreState) → IsOnTime costless image was (p.held t.core) (p.clocks t.core) → WasTold was (p.held t.core) → ⊥
   in_hand None on told = none_and_some None told.core refl told.runs
   in_hand (Some c) on told =
       let same = same_Some c told.core told.runs in
@@ -307,8 +310,8 @@ module _ {S : Type 0} (image : LoadedImage) (cores : ℕ) (s u : FlatState) (p :
   goes hart g more = record {
     under_way = record {
       run = taken_by image cores t.core s u g.others (s.cores t.core) g.now refl g.runs g.epochs g.homefree way.run;
-      undue = all_woken image cores t.core s u g.others t.at (λ k. answered t.at (restarts old mid) (executed_by old.book.image (Go hart)) (Go hart) (p.clocks k)) p.clocks
-          (t.at + 1 + executed_by old.book.image (Go hart)) (λ k. refl) g.going (more_epochs image cores t.core s u g.others (s.cores t.core) g.now g.epochs) way.undue;
+      undue = all_woken image cores t.core s u g.others t.at (λ k. answered t.at (restarts old mid) (executed_by old.book.image (Go hart)) t.price.spent (Go hart) (p.clocks k)) p.clocks
+          (t.at + 1 + total t.price.spent + executed_by old.book.image (Go hart)) (λ k. refl) g.going (more_epochs image cores t.core s u g.others (s.cores t.core) g.now g.epochs) way.undue;
       going = λ k c at. g.going;
     };
     few = more_entries (after_turn (Go hart)) more;
@@ -318,8 +321,8 @@ module _ {S : Type 0} (image : LoadedImage) (cores : ℕ) (s u : FlatState) (p :
   leaves still l more = record {
     under_way = record {
       run = left_by image cores t.core s u l.others l.was l.runs l.epoch l.homefree l.next_epoch way.run;
-      undue = all_woken image cores t.core s u l.others t.at (λ k. answered t.at (restarts old mid) (executed_by old.book.image Left) Left (p.clocks k)) p.clocks
-          (t.at + 1) (λ k. refl) still (omega (arith, l.next_epoch)) way.undue;
+      undue = all_woken image cores t.core s u l.others t.at (λ k. answered t.at (restarts old mid) (executed_by old.book.image Left) t.price.spent Left (p.clocks k)) p.clocks
+          (t.at + 1 + total t.price.spent) (λ k. refl) still (omega (arith, l.next_epoch)) way.undue;
       going = λ k c at. still;
     };
     few = more_entries (after_turn Left) more;
@@ -386,10 +389,10 @@ first_lasts b s clocks none replays first =
     }
 
 -- the run isn't at its end, so a core is due
-pub never_undue : {S : Type 0} (b : BookView S) (holds : Holding) (hands : ℕ → Option HartState) (now : ℕ) (clocks : ℕ → Clock) (taken count : ℕ) (next : Option Turn) → IsImage b.image
-    → 1 ≤ b.cores → count ≡ b.cores → IsLasting b clocks taken → ((t : Turn) → next ≢ Some t) → IsNext now (dues (held_in holds b hands) clocks) count next → ⊥
-never_undue b holds hands now clocks taken count (Some t) is_image least same l none next = none t refl
-never_undue b holds hands now clocks taken count None is_image least same l none next =
+pub never_undue : {S : Type 0} (b : BookView S) (holds : Holding) (hands : ℕ → Option HartState) (free : Free) (prices : ℕ → Price) (clocks : ℕ → Clock) (taken count : ℕ) (next : Option Turn) → IsImage b.image
+    → 1 ≤ b.cores → count ≡ b.cores → IsLasting b clocks taken → ((t : Turn) → next ≢ Some t) → IsNext free prices (dues (held_in holds b hands) clocks) count next → ⊥
+never_undue b holds hands free prices clocks taken count (Some t) is_image least same l none next = none t refl
+never_undue b holds hands free prices clocks taken count None is_image least same l none next =
     one_is_due b.image b.cores l.state b.history clocks holds hands is_image l.replays least l.under_way
     (λ k below. subst (λ r. dues (are_held holds b.image r hands) clocks k ≡ None) l.replays (next k (omega (arith, below, same))))
 
@@ -400,23 +403,28 @@ all_undue_by f g (suc n) same =
     let before = all_undue_by f g n (λ k below. same k (omega (arith, below))) in
     omega (arith, before, same n (omega arith), undue_of-more g n, undue_of-more f n)
 
-pub late_lasts : {S : Type 0} (b : BookView S) (clocks lates : ℕ → Clock) (taken : ℕ) (t : Turn) → due_of (clocks t.core).next ≡ Some t.due → ((k : ℕ) → lates k ≡ late_clocks clocks t k)
-    → IsLasting b clocks taken → IsLasting b lates taken
-late_lasts b clocks lates taken t due each l = record {
+late_is_due : (queues : Bool) (due at : ℕ) (c : Clock) → (late queues due at c).next ≡ Due at
+late_is_due true due at c = refl
+late_is_due false due at c = refl
+
+pub late_lasts : {S : Type 0} (b : BookView S) (queues : Bool) (clocks lates : ℕ → Clock) (taken : ℕ) (t : Turn) → due_of (clocks t.core).next ≡ Some t.due
+    → ((k : ℕ) → lates k ≡ late_clocks queues clocks t k) → IsLasting b clocks taken → IsLasting b lates taken
+late_lasts b queues clocks lates taken t due each l = record {
   state = l.state;
   replays = l.replays;
   under_way = record {
     run = l.under_way.run;
     undue = λ k below. subst (λ (c : Clock). IsUndue b.image l.state (l.state.cores k) c.next) (sym (each k))
-        (by_core k t.core (λ c. IsUndue b.image l.state (l.state.cores k) c.next) (late t.due t.at (clocks k)) (clocks k) (λ here. tt) (λ other. l.under_way.undue k below));
+        (by_core k t.core (λ c. IsUndue b.image l.state (l.state.cores k) c.next) (late queues t.due t.at (clocks k)) (clocks k)
+        (λ here. subst (IsUndue b.image l.state (l.state.cores k)) (sym (late_is_due queues t.due t.at (clocks k))) tt) (λ other. l.under_way.undue k below));
     going = l.under_way.going;
   };
   few = omega (
     arith,
     l.few,
     all_undue_by clocks lates b.cores (λ k below. ap (λ (c : Clock). undue (due_of c.next)) (each k)
-        ∙ by_core k t.core (λ c. undue (due_of c.next) ≡ undue (due_of (clocks k).next)) (late t.due t.at (clocks k)) (clocks k)
-        (λ here. sym (ap undue (subst (λ j. due_of (clocks j).next ≡ Some t.due) (sym here) due))) (λ other. refl)),
+        ∙ by_core k t.core (λ c. undue (due_of c.next) ≡ undue (due_of (clocks k).next)) (late queues t.due t.at (clocks k)) (clocks k)
+        (λ here. ap (λ n. undue (due_of n)) (late_is_due queues t.due t.at (clocks k)) ∙ sym (ap undue (subst (λ j. due_of (clocks j).next ≡ Some t.due) (sym here) due))) (λ other. refl)),
   );
 }
 
@@ -424,16 +432,16 @@ late_lasts b clocks lates taken t due each l = record {
 pub never_spent : {S : Type 0} (b : BookView S) (clocks : ℕ → Clock) (taken : ℕ) → IsLasting b clocks taken → length b.history ≤ most_room → b.cores ≤ 16 → 17 * most_room + 17 ≤ taken → ⊥
 never_spent b clocks taken l within most spent = omega (arith, l.few, within, most, spent, few_undue clocks b.cores)
 
-module _ {S : Type 0} (old mid : Driver S) (p : Pace) (t : Turn) (same : IsOfSameLoop old.book mid.book) (first : IsTurnOf p.clocks old.book.cores t) (most : old.book.cores ≤ 16) where
+module _ {S : Type 0} (costless : Bool) (old mid : Driver S) (p : Pace) (t : Turn) (same : IsOfSameLoop old.book mid.book) (first : IsTurnOf p.clocks old.book.cores t) (most : old.book.cores ≤ 16) where
   pub lasts_on : (answer : Answer) (clocks' : ℕ → Clock) (taken : ℕ) (s : FlatState) → Leads old mid t.core (p.held t.core) (Ok answer) → ((end : End) → answer ≢ Over end)
       → ((cause : StopCause) → answer ≢ Stopped cause) → ((k : ℕ) → clocks' k ≡ clocks_after old mid p.clocks t answer k)
-      → replay old.book.image old.book.cores old.book.history ≡ Some s → AreOnTime old.book.image old.book.cores s p → IsLasting old.book p.clocks taken
+      → replay old.book.image old.book.cores old.book.history ≡ Some s → AreOnTime costless old.book.image old.book.cores s p → IsLasting old.book p.clocks taken
       → IsLasting mid.book clocks' (taken + 1)
   lasts_on answer clocks' taken s l going unstopped are replays on was =
       let history = replay old.book.image old.book.cores old.book.history in
-      let timed = subst (λ x. AreOnTime old.book.image old.book.cores x p) (one_value history s l.before replays l.led) on in
+      let timed = subst (λ x. AreOnTime costless old.book.image old.book.cores x p) (one_value history s l.before replays l.led) on in
       let way = subst (λ x. IsUnderWay old.book.image old.book.cores x p.clocks) (one_value history was.state l.before was.replays l.led) was.under_way in
-      let lasts = turn_lasts old.book.image old.book.cores l.before l.after p old mid t first.core first.due (timed.each t.core first.core) way taken
+      let lasts = turn_lasts costless old.book.image old.book.cores l.before l.after p old mid t first.core first.due (timed.each t.core first.core) way taken
       (length old.book.history) (length mid.book.history) old.book.stopped was.few most answer going unstopped l.came l.adds in
       let path = fun_ext are in record {
         state = l.after;

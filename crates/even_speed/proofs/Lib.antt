@@ -1,4 +1,5 @@
 pub mod Sounding
+pub mod Choosing
 pub mod Events
 pub mod Finding
 pub mod Owning

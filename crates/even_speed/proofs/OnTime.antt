@@ -25,61 +25,72 @@ use Rattle.even_speed.specs.declared.account.Account.{Account}
 use Rattle.even_speed.specs.declared.clock.Clock.{Clock}
 use Rattle.even_speed.specs.declared.clock.Next.{Next}
 use Rattle.even_speed.specs.declared.clock.Next.TheVariants.{Due, Waits, Gone}
+use Rattle.even_speed.specs.declared.account.Spent.{Spent}
 use Rattle.even_speed.specs.declared.clocks.Turn.{Turn}
-use Rattle.even_speed.specs.Clocks.{account_of, answered, begun, closed, due_of, ended, first_clock, late, late_clocks, waits_for, woken, woken_by, woken_from}
+use Rattle.even_speed.specs.Clocks.{account_of, answered, begun, closed, due_of, first_clock, late, late_clocks, left, paid, waits_for, woken, woken_by, woken_from}
 use Rattle.even_speed.specs.Even.{Pace, at_first, clocks_after, executed_by, restarts}
-use Rattle.even_speed.specs.InOrder.{epoch_count, steps_in_order}
-use Rattle.even_speed.specs.Kept.{IsSound, IsTurnOf, IsWaitBefore, told}
-use Rattle.even_speed.specs.Timed.{AreOnTime, Came, From, GoesTo, IsNextAt, IsOnTime, Leads, IsDueAt, IsNeverIdle, Leaves, Moves, StaysAt, WasOver, useful_of}
+use Rattle.even_speed.specs.InOrder.{epoch_count, instructions_in_order, steps_in_order}
+use Rattle.even_speed.specs.Kept.{IsTurnOf, IsWaitBefore, told, used}
+use Rattle.even_speed.specs.Pricing.{free_after}
+use Rattle.even_speed.specs.Timed.{AreOnTime, Came, From, GoesTo, IsNextAt, IsOnTime, Leads, IsDueAt, IsNeverIdle, Leaves, Moves, StaysAt, WasOver, busy_of, spent_of, sum_over}
 use Rattle.even_speed.proofs.Events.{later_event}
-use Rattle.even_speed.specs.Account.{WastesNone, no_steps, steps_of, sum_of}
+use Rattle.even_speed.specs.Account.{WastesNone, no_steps, steps_of, sum_of, total, useful_in}
 use Rattle.even_speed.proofs.OneCore.{account_one}
-use Rattle.even_speed.proofs.Sounding.{account_of-more, account_of-none, may_wake}
+use Rattle.even_speed.proofs.Sounding.{account_of-more, account_of-none, at_turn}
 
 -- ---- a core that didn't take the turn
 
-moved_by : (image : LoadedImage) (o u was : Option CoreState) (held : Option HartState) (c : Clock) → u ≡ was → Moves o u → IsOnTime image o held c → IsOnTime image was held c
-moved_by image o u None held c is moves on = subst (λ x. IsOnTime image x held c) (moves.idle is) on
-moved_by image o u (Some d) held c is moves on =
+moved_by : (costless : Bool) (image : LoadedImage) (o u was : Option CoreState) (held : Option HartState) (c : Clock) → u ≡ was → Moves o u → IsOnTime costless image o held c
+    → IsOnTime costless image was held c
+moved_by costless image o u None held c is moves on = subst (λ x. IsOnTime costless image x held c) (moves.idle is) on
+moved_by costless image o u (Some d) held c is moves on =
     let x = moves.runs d is in
-    let was = subst (λ y. IsOnTime image y held c) x.1 on in (
+    let was = subst (λ y. IsOnTime costless image y held c) x.1 on in (
       was.0,
       λ unhurt.
           let same = x.2 unhurt in
-          subst (λ (e : CoreState). (held ≡ Some e.hart) × IsNextAt (told c + 1 + (next_event image e.hart).now.done) c.next) (sym same)
+          subst (λ (e : CoreState). (held ≡ Some e.hart) × IsNextAt (used c + (next_event image e.hart).now.done) c.next) (sym same)
           (was.1 (sym (ap (λ (e : CoreState). e.hurt) same) ∙ unhurt)),
+      was.2,
     )
 
-moved : (image : LoadedImage) (o u : Option CoreState) (held : Option HartState) (c : Clock) → Moves o u → IsOnTime image o held c → IsOnTime image u held c
-moved image o u held c moves on = moved_by image o u u held c refl moves on
+moved : (costless : Bool) (image : LoadedImage) (o u : Option CoreState) (held : Option HartState) (c : Clock) → Moves o u → IsOnTime costless image o held c → IsOnTime costless image u held c
+moved costless image o u held c moves on = moved_by costless image o u u held c refl moves on
 
 -- ---- a wake
 
-woken_next : (at n : ℕ) (c : Clock) (next : Next) → c.next ≡ next → IsWaitBefore at next → IsNextAt (told c + 1 + n) next
-    → IsNextAt (told (woken_from next at c) + 1 + n) (woken_from next at c).next
-woken_next at n c (Due due) is before on = subst (λ x. IsNextAt (told c + 1 + n) x) (sym is) on
+woken_next : (at n : ℕ) (c : Clock) (next : Next) → c.next ≡ next → IsWaitBefore at next → IsNextAt (used c + n) next
+    → IsNextAt (used (woken_from next at c) + n) (woken_from next at c).next
+woken_next at n c (Due due) is before on = subst (λ x. IsNextAt (used c + n) x) (sym is) on
 woken_next at n c (Waits since cause) is before on = omega (arith, before, on)
 woken_next at n c Gone is before on = absurd on
 
-woken_runs : (at : ℕ) (c : Clock) (next : Next) → (woken_from next at c).runs ≡ c.runs
-woken_runs at c (Due due) = refl
-woken_runs at c (Waits since cause) = refl
-woken_runs at c Gone = refl
+woken_runs : (at : ℕ) (c : Clock) (next : Next) → ((woken_from next at c).runs ≡ c.runs) × ((woken_from next at c).spent ≡ c.spent)
+woken_runs at c (Due due) = (refl, refl)
+woken_runs at c (Waits since cause) = (refl, refl)
+woken_runs at c Gone = (refl, refl)
 
-woken_time : (image : LoadedImage) (core : Option CoreState) (held : Option HartState) (at : ℕ) (c : Clock) → IsWaitBefore at c.next → IsOnTime image core held c
-    → IsOnTime image core held (woken at c)
-woken_time image None held at c before on = woken_runs at c c.next ∙ on
-woken_time image (Some core) held at c before on =
-    (woken_runs at c c.next ∙ on.0, λ unhurt. ((on.1 unhurt).0, woken_next at (next_event image core.hart).now.done c c.next refl before (on.1 unhurt).1))
+woken_time : (costless : Bool) (image : LoadedImage) (core : Option CoreState) (held : Option HartState) (at : ℕ) (c : Clock) → IsWaitBefore at c.next → IsOnTime costless image core held c
+    → IsOnTime costless image core held (woken at c)
+woken_time costless image None held at c before on = (woken_runs at c c.next).0 ∙ on
+woken_time costless image (Some core) held at c before on = (
+  (woken_runs at c c.next).0 ∙ on.0,
+  λ unhurt. ((on.1 unhurt).0, woken_next at (next_event image core.hart).now.done c c.next refl before (on.1 unhurt).1),
+  λ none. ap total (woken_runs at c c.next).1 ∙ on.2 none,
+)
 
-woken_useful : (at : ℕ) (c : Clock) (next : Next) → (woken_from next at c).account.useful ≡ c.account.useful
-woken_useful at c (Due due) = refl
-woken_useful at c (Waits since NoEpoch) = refl
-woken_useful at c (Waits since NotHomefree) = refl
-woken_useful at c (Waits since NoWay) = refl
-woken_useful at c (Waits since OrbFull) = refl
-woken_useful at c (Waits since OrbBusy) = refl
-woken_useful at c Gone = refl
+-- the busy steps, and what was spent beside them
+abbrev IsSameUseful : Account → Account → Type 0
+IsSameUseful a b = (b.busy ≡ a.busy) × (b.spent ≡ a.spent)
+
+woken_useful : (at : ℕ) (c : Clock) (next : Next) → IsSameUseful c.account (woken_from next at c).account
+woken_useful at c (Due due) = (refl, refl)
+woken_useful at c (Waits since NoEpoch) = (refl, refl)
+woken_useful at c (Waits since NotHomefree) = (refl, refl)
+woken_useful at c (Waits since NoWay) = (refl, refl)
+woken_useful at c (Waits since OrbFull) = (refl, refl)
+woken_useful at c (Waits since OrbBusy) = (refl, refl)
+woken_useful at c Gone = (refl, refl)
 
 -- ---- the core that took the turn
 
@@ -88,182 +99,237 @@ due_is (Due due) at is = ap Due (same_Some due at is)
 due_is (Waits since cause) at is = absurd cc
 due_is Gone at is = absurd cc
 
--- it goes on
-new_attempt : (image : LoadedImage) (at : ℕ) (hart : HartState) → hart.done ≡ 0 → at + 1 + ((next_event image hart).now.done - hart.done) ≡ at + 0 + 1 + (next_event image hart).now.done
-new_attempt image at hart none = omega (arith, none)
-
-same_attempt : (image : LoadedImage) (at told done : ℕ) (hart : HartState) → at ≡ told + 1 + done → hart.done ≡ done + 1
-    → at + 1 + ((next_event image hart).now.done - hart.done) ≡ told + 1 + (next_event image hart).now.done
-same_attempt image at told done hart on count = omega (arith, on, count, later_event image hart)
-
-abbrev gone_on : LoadedImage → ℕ → Bool → HartState → Clock → Clock
-gone_on image at restarted hart c = record (begun at restarted c) { next = Due (at + 1 + ((next_event image hart).now.done - hart.done)) }
-
-abbrev Goes : LoadedImage → ℕ → Bool → HartState → Clock → Type 0
-Goes image at restarted hart c = ((gone_on image at restarted hart c).runs ≡ true)
-    × (at + 1 + ((next_event image hart).now.done - hart.done) ≡ told (gone_on image at restarted hart c) + 1 + (next_event image hart).now.done)
-
-begun_idle : (image : LoadedImage) (at : ℕ) (restarted : Bool) (hart : HartState) (c : Clock) → c.runs ≡ false → hart.done ≡ 0 → Goes image at restarted hart c
-begun_idle image at restarted hart c runs none = rw runs (refl, new_attempt image at hart none)
-
-begun_hurt : (image : LoadedImage) (at : ℕ) (restarted : Bool) (hart : HartState) (c : Clock) → c.runs ≡ true → restarted ≡ true → hart.done ≡ 0 → Goes image at restarted hart c
-begun_hurt image at restarted hart c runs restart none = rw (runs, restart) (refl, new_attempt image at hart none)
-
-begun_on : (image : LoadedImage) (at done : ℕ) (restarted : Bool) (hart : HartState) (c : Clock) → c.runs ≡ true → restarted ≡ false → at ≡ told c + 1 + done → hart.done ≡ done + 1
-    → Goes image at restarted hart c
-begun_on image at done restarted hart c runs none on count = rw (runs, none) (refl, same_attempt image at (told c) done hart on count)
-
 next_at : (n at : ℕ) (next : Next) → next ≡ Due at → IsNextAt n next → at ≡ n
 next_at n at next is on = subst (IsNextAt n) is on
 
-goes_by : (image : LoadedImage) (was : Option CoreState) (held : Option HartState) (at : ℕ) (restarted : Bool) (hart : HartState) (c : Clock) → c.next ≡ Due at
-    → From image held restarted hart was → IsOnTime image was held c → Goes image at restarted hart c
-goes_by image None held at restarted hart c due from on = begun_idle image at restarted hart c on from
-goes_by image (Some b) held at restarted hart c due from on = elim (cases_Bool b.hurt) [
-  | inl hurt ↦ let f = from.0 hurt in begun_hurt image at restarted hart c on.0 f.0 f.1
-  | inr free ↦ let o = on.1 free in
-      let f = from.1 free o.0 in
-      begun_on image at (next_event image b.hart).now.done restarted hart c on.0 f.0 (next_at _ at c.next due o.1) f.1
-]
+-- it goes on
+abbrev gone_on : LoadedImage → ℕ → Bool → Spent → HartState → Clock → Clock
+gone_on image at restarted e hart c = record (paid e (begun at restarted c)) { next = Due (at + 1 + total e + ((next_event image hart).now.done - hart.done)) }
 
-same_useful : (at : ℕ) (restarted : Bool) (c : Clock) (runs again : Bool) → c.runs ≡ runs → restarted ≡ again → (begun at restarted c).account.useful ≡ c.account.useful
-same_useful at restarted c true true is so = rw (is, so) refl
-same_useful at restarted c true false is so = rw (is, so) refl
-same_useful at restarted c false again is so = rw is refl
+module _ (costless : Bool) (image : LoadedImage) (at : ℕ) (restarted : Bool) (e : Spent) (hart : HartState) (c : Clock) (free : costless ≡ true → total e ≡ 0) where
+  abbrev gone : Clock
+  gone = gone_on image at restarted e hart c
 
-goes_on_time : (image : LoadedImage) (u : Option CoreState) (now : CoreState) (at : ℕ) (restarted : Bool) (hart : HartState) (c : Clock) → u ≡ Some now → now.hart ≡ hart
-    → Goes image at restarted hart c → IsOnTime image u (Some hart) (gone_on image at restarted hart c)
-goes_on_time image u now at restarted hart c is hart_is goes =
-    subst (λ x. IsOnTime image x (Some hart) (gone_on image at restarted hart c)) (sym is)
-    (goes.0, λ unhurt. (ap Some (sym hart_is), subst (λ (h : HartState). IsNextAt (told (gone_on image at restarted hart c) + 1 + (next_event image h).now.done) (gone_on image at restarted hart c).next) (sym hart_is) goes.1))
+  record Goes : Type 0 where
+    runs : gone.runs ≡ true
+    next : at + 1 + total e + ((next_event image hart).now.done - hart.done) ≡ used gone + (next_event image hart).now.done
+    spent : costless ≡ true → total gone.spent ≡ 1
+
+  begun_idle : c.runs ≡ false → hart.done ≡ 0 → Goes
+  begun_idle runs none = record { runs = rw runs refl; next = rw runs (omega (arith, none)); spent = λ is. rw runs (omega (arith, free is)) }
+
+  begun_hurt : c.runs ≡ true → restarted ≡ true → hart.done ≡ 0 → Goes
+  begun_hurt runs restart none = record { runs = rw (runs, restart) refl; next = rw (runs, restart) (omega (arith, none)); spent = λ is. rw (runs, restart) (omega (arith, free is)) }
+
+  begun_on : (done : ℕ) → c.runs ≡ true → restarted ≡ false → at ≡ used c + done → hart.done ≡ done + 1 → (costless ≡ true → total c.spent ≡ 1) → Goes
+  begun_on done runs none on count spent = record {
+    runs = rw (runs, none) refl;
+    next = rw (runs, none) (omega (arith, on, count, later_event image hart));
+    spent = λ is. rw (runs, none) (omega (arith, free is, spent is));
+  }
+
+  goes_by : (was : Option CoreState) (held : Option HartState) → c.next ≡ Due at → From image held restarted hart was → IsOnTime costless image was held c → Goes
+  goes_by None held due from on = begun_idle on from
+  goes_by (Some b) held due from on = elim (cases_Bool b.hurt) [
+    | inl hurt ↦ let f = from.0 hurt in begun_hurt on.0 f.0 f.1
+    | inr unhurt ↦ let o = on.1 unhurt in
+        let f = from.1 unhurt o.0 in
+        begun_on (next_event image b.hart).now.done on.0 f.0 (next_at _ at c.next due o.1) f.1 on.2
+  ]
+
+  goes_on_time : (u : Option CoreState) (now : CoreState) → u ≡ Some now → now.hart ≡ hart → Goes → IsOnTime costless image u (Some hart) gone
+  goes_on_time u now is hart_is goes =
+      subst (λ x. IsOnTime costless image x (Some hart) gone) (sym is) (
+        goes.runs,
+        λ unhurt. (ap Some (sym hart_is), subst (λ (h : HartState). IsNextAt (used gone + (next_event image h).now.done) gone.next) (sym hart_is) goes.next),
+        goes.spent,
+      )
+
+same_useful : (at : ℕ) (restarted : Bool) (e : Spent) (c : Clock) (runs again : Bool) → c.runs ≡ runs → restarted ≡ again → IsSameUseful c.account (paid e (begun at restarted c)).account
+same_useful at restarted e c true true is so = rw (is, so) (refl, refl)
+same_useful at restarted e c true false is so = rw (is, so) (refl, refl)
+same_useful at restarted e c false again is so = rw is (refl, refl)
 
 -- it waits
-waits_on_time : (image : LoadedImage) (u : Option CoreState) (held : Option HartState) (at : ℕ) (cause : Cause) (c : Clock) → c.next ≡ Due at → IsOnTime image u held c
-    → IsOnTime image u held (record c { next = Waits at cause })
-waits_on_time image None held at cause c due on = on
-waits_on_time image (Some b) held at cause c due on = (on.0, λ unhurt. ((on.1 unhurt).0, next_at _ at c.next due (on.1 unhurt).1))
+waits_on_time : (costless : Bool) (image : LoadedImage) (u : Option CoreState) (held : Option HartState) (at : ℕ) (cause : Cause) (c : Clock) → c.next ≡ Due at → IsOnTime costless image u held c
+    → IsOnTime costless image u held (record c { next = Waits at cause })
+waits_on_time costless image None held at cause c due on = on
+waits_on_time costless image (Some b) held at cause c due on = (on.0, λ unhurt. ((on.1 unhurt).0, next_at _ at c.next due (on.1 unhurt).1), on.2)
 
--- it leaves: its attempt took a step to begin, one for each instruction, and one to commit
-left_useful : (at done : ℕ) (c : Clock) → c.runs ≡ true → at ≡ told c + 1 + done → (ended (at + 1) c).account.useful ≡ c.account.useful + (done + 2)
-left_useful at done c runs on = rw runs (omega (arith, on))
+-- it leaves: its attempt took what it spent, one step for each instruction, and one to commit
+left_busy : (at done : ℕ) (e : Spent) (c : Clock) → c.runs ≡ true → at ≡ used c + done → (left at e c).account.busy ≡ c.account.busy + done
+left_busy at done e c runs on = rw runs (omega (arith, on))
 
-idle_useful : (end : ℕ) (c : Clock) → c.runs ≡ false → (ended end c).account.useful ≡ c.account.useful
-idle_useful end c idle = rw idle refl
+left_spent : (at : ℕ) (e : Spent) (c : Clock) → c.runs ≡ true → total (left at e c).account.spent ≡ total c.account.spent + (total c.spent + total e + 1)
+left_spent at e c runs = rw runs (omega arith)
 
-was_time : (image : LoadedImage) (was : Option CoreState) (b : CoreState) (held : Option HartState) (at : ℕ) (c : Clock) → was ≡ Some b → b.hurt ≡ false → c.next ≡ Due at
-    → IsOnTime image was held c → (c.runs ≡ true) × (at ≡ told c + 1 + (next_event image b.hart).now.done)
-was_time image was b held at c is unhurt due on =
-    let o = subst (λ x. IsOnTime image x held c) is on in (o.0, next_at _ at c.next due (o.1 unhurt).1)
+idle_useful : (at : ℕ) (e : Spent) (c : Clock) → c.runs ≡ false → IsSameUseful c.account (left at e c).account
+idle_useful at e c idle = rw idle (refl, refl)
 
--- ---- the clock of the one core that there is
+was_time : (costless : Bool) (image : LoadedImage) (was : Option CoreState) (b : CoreState) (held : Option HartState) (at : ℕ) (c : Clock) → was ≡ Some b → b.hurt ≡ false → c.next ≡ Due at
+    → IsOnTime costless image was held c → (c.runs ≡ true) × (at ≡ used c + (next_event image b.hart).now.done) × (costless ≡ true → total c.spent ≡ 1)
+was_time costless image was b held at c is unhurt due on =
+    let o = subst (λ x. IsOnTime costless image x held c) is on in (o.0, next_at _ at c.next due (o.1 unhurt).1, o.2)
+
+-- ---- the clock of the one core that there is, where turns cost nothing
 
 due_now : (at told : ℕ) (next : Next) → next ≡ Due at → IsDueAt told next → at ≡ told
 due_now at told next is due = subst (IsDueAt told) is due
 
-begun_busy : (at due : ℕ) (restarted : Bool) (c : Clock) (runs again : Bool) → c.runs ≡ runs → restarted ≡ again → c.next ≡ Due at → IsNeverIdle c
-    → IsNeverIdle (record (begun at restarted c) { next = Due due })
-begun_busy at due restarted c true true is so next busy = rw (is, so) (record { idle = busy.idle; due = λ none. absurd (true≢false none) })
-begun_busy at due restarted c true false is so next busy = rw (is, so) (record { idle = busy.idle; due = λ none. absurd (true≢false none) })
-begun_busy at due restarted c false again is so next busy =
+begun_busy : (at due : ℕ) (restarted : Bool) (e : Spent) (c : Clock) (runs again : Bool) → c.runs ≡ runs → restarted ≡ again → c.next ≡ Due at → IsNeverIdle c
+    → IsNeverIdle (record (paid e (begun at restarted c)) { next = Due due })
+begun_busy at due restarted e c true true is so next busy = rw (is, so) (record { idle = busy.idle; due = λ none. absurd (true≢false none) })
+begun_busy at due restarted e c true false is so next busy = rw (is, so) (record { idle = busy.idle; due = λ none. absurd (true≢false none) })
+begun_busy at due restarted e c false again is so next busy =
     let now = due_now at (told c) c.next next (busy.due is) in
     rw is (record { idle = omega (arith, busy.idle, now); due = λ none. absurd (true≢false none) })
 
 waits_busy : (at : ℕ) (cause : Cause) (c : Clock) → c.runs ≡ true → IsNeverIdle c → IsNeverIdle (record c { next = Waits at cause })
 waits_busy at cause c runs busy = record { idle = busy.idle; due = λ none. absurd (true≢false (sym runs ∙ none)) }
 
-left_busy : (at : ℕ) (c : Clock) → c.runs ≡ true → IsNeverIdle c → IsNeverIdle (record (ended (at + 1) c) { next = Due (at + 1) })
-left_busy at c runs busy = rw runs (record { idle = busy.idle; due = λ none. omega arith })
+left_never_idle : (at : ℕ) (e : Spent) (c : Clock) → c.runs ≡ true → IsNeverIdle c → IsNeverIdle (record (left at e c) { next = Due (at + 1 + total e) })
+left_never_idle at e c runs busy = rw runs (record { idle = busy.idle; due = λ none. omega arith })
 
-over_idle : (at : ℕ) (c : Clock) → c.runs ≡ true → IsNeverIdle c → (sum_of no_steps (closed (at + 1) (record (ended (at + 1) c) { next = Gone })).account).idle ≡ 0
-over_idle at c runs busy = rw runs (omega (arith, busy.idle))
+over_idle : (at end : ℕ) (e : Spent) (c : Clock) → end ≡ at + 1 + total e → c.runs ≡ true → IsNeverIdle c → (sum_of no_steps (closed end (record (left at e c) { next = Gone })).account).idle ≡ 0
+over_idle at end e c is runs busy = rw runs (omega (arith, busy.idle, is))
 
 pub first_busy : IsNeverIdle first_clock
 first_busy = record { idle = refl; due = λ none. refl }
 
 -- ---- sums
 
-useful_of-none : (clocks : ℕ → Clock) → useful_of clocks 0 ≡ 0
-unfolding useful_of
-useful_of-none clocks = refl
+sum_over-none : (f : Clock → ℕ) (clocks : ℕ → Clock) → sum_over f clocks 0 ≡ 0
+unfolding sum_over
+sum_over-none f clocks = refl
 
-useful_of-more : (clocks : ℕ → Clock) (n : ℕ) → useful_of clocks (suc n) ≡ useful_of clocks n + (clocks n).account.useful
-unfolding useful_of
-useful_of-more clocks n = refl
+sum_over-more : (f : Clock → ℕ) (clocks : ℕ → Clock) (n : ℕ) → sum_over f clocks (suc n) ≡ sum_over f clocks n + f (clocks n)
+unfolding sum_over
+sum_over-more f clocks n = refl
 
-all_useful : (f g : ℕ → Clock) (n : ℕ) → ((k : ℕ) → k < n → (g k).account.useful ≡ (f k).account.useful) → useful_of g n ≡ useful_of f n
-all_useful f g zero same = useful_of-none g ∙ sym (useful_of-none f)
-all_useful f g (suc n) same =
-    let before = all_useful f g n (λ k below. same k (omega (arith, below))) in
-    omega (arith, before, same n (omega arith), useful_of-more g n, useful_of-more f n)
+same_sum : (f : Clock → ℕ) (old new : ℕ → Clock) (n : ℕ) → ((k : ℕ) → k < n → f (new k) ≡ f (old k)) → sum_over f new n ≡ sum_over f old n
+same_sum f old new zero same = sum_over-none f new ∙ sym (sum_over-none f old)
+same_sum f old new (suc n) same =
+    let before = same_sum f old new n (λ k below. same k (omega (arith, below))) in
+    omega (arith, before, same n (omega arith), sum_over-more f new n, sum_over-more f old n)
 
-one_useful : (f g : ℕ → Clock) (core more n : ℕ) → ((k : ℕ) → k ≢ core → (g k).account.useful ≡ (f k).account.useful) → (g core).account.useful ≡ (f core).account.useful + more
-    → core < n → useful_of g n ≡ useful_of f n + more
-one_useful f g core more zero same here below = absurd (omega (arith, below))
-one_useful f g core more (suc n) same here below = elim (cases_eq n core) [
+one_sum : (f : Clock → ℕ) (old new : ℕ → Clock) (core more n : ℕ) → ((k : ℕ) → k ≢ core → f (new k) ≡ f (old k)) → f (new core) ≡ f (old core) + more
+    → core < n → sum_over f new n ≡ sum_over f old n + more
+one_sum f old new core more zero same here below = absurd (omega (arith, below))
+one_sum f old new core more (suc n) same here below = elim (cases_eq n core) [
   | inl is ↦
-      let before = all_useful f g n (λ k less. same k (λ e. omega (arith, less, e, is))) in
-      let now : (g n).account.useful ≡ (f n).account.useful + more = subst (λ k. (g k).account.useful ≡ (f k).account.useful + more) (sym is) here in
-      omega (arith, before, now, useful_of-more g n, useful_of-more f n)
+      let before = same_sum f old new n (λ k less. same k (λ e. omega (arith, less, e, is))) in
+      let now : f (new n) ≡ f (old n) + more = subst (λ k. f (new k) ≡ f (old k) + more) (sym is) here in
+      omega (arith, before, now, sum_over-more f new n, sum_over-more f old n)
   | inr other ↦
-      let before = one_useful f g core more n same here (omega (arith, below, other)) in
-      omega (arith, before, same n other, useful_of-more g n, useful_of-more f n)
+      let before = one_sum f old new core more n same here (omega (arith, below, other)) in
+      omega (arith, before, same n other, sum_over-more f new n, sum_over-more f old n)
 ]
 
-steps_more : (image : LoadedImage) (n : ℕ) → steps_in_order image (n + 1) ≡ steps_in_order image n + (epoch_count image n + 2)
+instructions_more : (image : LoadedImage) (n : ℕ) → instructions_in_order image (n + 1) ≡ instructions_in_order image n + epoch_count image n
+unfolding instructions_in_order
+instructions_more image n = rw add-one refl
+
+instructions_none : (image : LoadedImage) → instructions_in_order image 0 ≡ 0
+unfolding instructions_in_order
+instructions_none image = refl
+
+instructions_suc : (image : LoadedImage) (n : ℕ) → instructions_in_order image (suc n) ≡ instructions_in_order image n + epoch_count image n
+unfolding instructions_in_order
+instructions_suc image n = refl
+
+steps_suc : (image : LoadedImage) (n : ℕ) → steps_in_order image (suc n) ≡ steps_in_order image n + (epoch_count image n + 2)
 unfolding steps_in_order
-steps_more image n = rw add-one refl
+steps_suc image n = refl
 
 steps_none : (image : LoadedImage) → steps_in_order image 0 ≡ 0
 unfolding steps_in_order
 steps_none image = refl
 
+-- the steps in order are the instructions, and two for each epoch
+steps_are : (image : LoadedImage) (n : ℕ) → steps_in_order image n ≡ instructions_in_order image n + (n + n)
+steps_are image zero = omega (arith, steps_none image, instructions_none image)
+steps_are image (suc n) = omega (arith, steps_are image n, steps_suc image n, instructions_suc image n)
+
 -- ---- the end of the run
 
-closed_useful : (end : ℕ) (c : Clock) (runs : Bool) → (woken end c).runs ≡ runs → (closed end c).account.useful ≡ c.account.useful
+closed_useful : (end : ℕ) (c : Clock) (runs : Bool) → (woken end c).runs ≡ runs → IsSameUseful c.account (closed end c).account
 closed_useful end c true is = rw is (woken_useful end c c.next)
 closed_useful end c false is = rw is (woken_useful end c c.next)
 
-pub account_useful : (end : ℕ) (clocks : ℕ → Clock) (n : ℕ) → (account_of end clocks n).useful ≡ useful_of clocks n
-account_useful end clocks zero = ap (λ (a : Account). a.useful) (account_of-none end clocks) ∙ sym (useful_of-none clocks)
-account_useful end clocks (suc n) =
-    let more : (account_of end clocks (suc n)).useful ≡ (account_of end clocks n).useful + (closed end (clocks n)).account.useful =
-    ap (λ (k : ℕ). (account_of end clocks k).useful) (suc_is n) ∙ ap (λ (a : Account). a.useful) (account_of-more end clocks n) in
-    omega (arith, more, account_useful end clocks n, closed_useful end (clocks n) (woken end (clocks n)).runs refl, useful_of-more clocks n)
-  where
-    suc_is : (k : ℕ) → suc k ≡ k + 1
-    suc_is k = omega arith
+-- a part of an account that sums, and that the end of the run leaves
+module _ (f : Account → ℕ) (none : f no_steps ≡ 0) (sums : (a b : Account) → f (sum_of a b) ≡ f a + f b) (closes : (end : ℕ) (c : Clock) → f (closed end c).account ≡ f c.account) where
+  account_sum : (end : ℕ) (clocks : ℕ → Clock) (n : ℕ) → f (account_of end clocks n) ≡ sum_over (λ c. f c.account) clocks n
+  account_sum end clocks zero = ap f (account_of-none end clocks) ∙ (none ∙ sym (sum_over-none (λ c. f c.account) clocks))
+  account_sum end clocks (suc n) =
+      let more : f (account_of end clocks (suc n)) ≡ f (account_of end clocks n) + f (closed end (clocks n)).account =
+      ap (λ (k : ℕ). f (account_of end clocks k)) (suc_is n) ∙ (ap f (account_of-more end clocks n) ∙ sums (account_of end clocks n) (closed end (clocks n)).account) in
+      omega (arith, more, account_sum end clocks n, closes end (clocks n), sum_over-more (λ c. f c.account) clocks n)
+    where
+      suc_is : (k : ℕ) → suc k ≡ k + 1
+      suc_is k = omega arith
+
+account_busy : (end : ℕ) (clocks : ℕ → Clock) (n : ℕ) → (account_of end clocks n).busy ≡ busy_of clocks n
+account_busy end clocks n = account_sum (λ a. a.busy) refl (λ a b. refl) (λ e c. (closed_useful e c (woken e c).runs refl).0) end clocks n
+
+account_spent : (end : ℕ) (clocks : ℕ → Clock) (n : ℕ) → total (account_of end clocks n).spent ≡ spent_of clocks n
+account_spent end clocks n = account_sum (λ a. total a.spent) refl (λ a b. omega arith) (λ e c. ap total (closed_useful e c (woken e c).runs refl).1) end clocks n
 
 -- ---- as a turn begins
 
-module _ (image : LoadedImage) (due at : ℕ) (c : Clock) (is : c.next ≡ Due due) (before : due ≤ at) where
-  late_time : (core : Option CoreState) (held : Option HartState) → IsOnTime image core held c → IsOnTime image core held (late due at c)
-  late_time None held on = on
-  late_time (Some core) held on = (on.0, λ unhurt. ((on.1 unhurt).0, omega (arith, next_at _ due c.next is (on.1 unhurt).1, before)))
+module _ (costless : Bool) (image : LoadedImage) (due at : ℕ) (queues : Bool) (c : Clock) (is : c.next ≡ Due due) (before : due ≤ at) (calm : costless ≡ true → queues ≡ false) where
+  late_by : (q : Bool) (core : CoreState) (held : Option HartState) → queues ≡ q → IsOnTime costless image (Some core) held c → IsOnTime costless image (Some core) held (late q due at c)
+  late_by true core held so on = (
+    on.0,
+    λ unhurt. ((on.1 unhurt).0, omega (arith, next_at _ due c.next is (on.1 unhurt).1, before)),
+    λ none. absurd (true≢false (sym so ∙ calm none)),
+  )
+  late_by false core held so on = (on.0, λ unhurt. ((on.1 unhurt).0, omega (arith, next_at _ due c.next is (on.1 unhurt).1, before)), on.2)
 
-  late_busy : IsNeverIdle c → IsNeverIdle (late due at c)
-  late_busy busy = record { idle = busy.idle; due = λ none. omega (arith, due_now due (told c) c.next is (busy.due none), before) }
+  late_runs : (q : Bool) → (late q due at c).runs ≡ c.runs
+  late_runs true = refl
+  late_runs false = refl
 
-module _ (image : LoadedImage) (cores : ℕ) (s : FlatState) (p : Pace) (lates : ℕ → Clock) (t : Turn) (due : due_of (p.clocks t.core).next ≡ Some t.due) (before : t.due ≤ t.at)
-    (each : (k : ℕ) → lates k ≡ late_clocks p.clocks t k) where
-  lates_by : (P : ℕ → Clock → Type 0) → P t.core (late t.due t.at (p.clocks t.core)) → (k : ℕ) → P k (p.clocks k) → P k (lates k)
+  late_time : (core : Option CoreState) (held : Option HartState) → IsOnTime costless image core held c → IsOnTime costless image core held (late queues due at c)
+  late_time None held on = late_runs queues ∙ on
+  late_time (Some core) held on = late_by queues core held refl on
+
+  late_useful : (q : Bool) → IsSameUseful c.account (late q due at c).account
+  late_useful true = (refl, refl)
+  late_useful false = (refl, refl)
+
+  late_busy : queues ≡ false → IsNeverIdle c → IsNeverIdle (late queues due at c)
+  late_busy none busy = rw none (record { idle = busy.idle; due = λ idle. omega (arith, due_now due (told c) c.next is (busy.due idle), before) })
+
+module _ (costless : Bool) (image : LoadedImage) (cores : ℕ) (s : FlatState) (p : Pace) (queues : Bool) (lates : ℕ → Clock) (t : Turn) (due : due_of (p.clocks t.core).next ≡ Some t.due)
+    (before : t.due ≤ t.at) (calm : costless ≡ true → queues ≡ false) (each : (k : ℕ) → lates k ≡ late_clocks queues p.clocks t k) where
+  own_due : (p.clocks t.core).next ≡ Due t.due
+  own_due = due_is (p.clocks t.core).next t.due due
+
+  lates_by : (P : ℕ → Clock → Type 0) → P t.core (late queues t.due t.at (p.clocks t.core)) → (k : ℕ) → P k (p.clocks k) → P k (lates k)
   lates_by P own k other = subst (P k) (sym (each k)) (elim (cases_eq k t.core) [
-    | inl e ↦ subst (λ b. P k (cond b (late t.due t.at (p.clocks k)) (p.clocks k))) (sym (eq-eqb k t.core e)) (subst (λ j. P j (late t.due t.at (p.clocks j))) (sym e) own)
-    | inr ne ↦ subst (λ b. P k (cond b (late t.due t.at (p.clocks k)) (p.clocks k))) (sym (ne_eqb k t.core ne)) other
+    | inl e ↦ subst (λ b. P k (cond b (late queues t.due t.at (p.clocks k)) (p.clocks k))) (sym (eq-eqb k t.core e)) (subst (λ j. P j (late queues t.due t.at (p.clocks j))) (sym e) own)
+    | inr ne ↦ subst (λ b. P k (cond b (late queues t.due t.at (p.clocks k)) (p.clocks k))) (sym (ne_eqb k t.core ne)) other
   ])
 
-  pub late_on_time : t.core < cores → AreOnTime image cores s p → AreOnTime image cores s (record { held = p.held; clocks = lates; now = t.at })
+  lates_useful : (k : ℕ) → IsSameUseful (p.clocks k).account (lates k).account
+  lates_useful k = lates_by (λ j c. IsSameUseful (p.clocks j).account c.account) (late_useful costless image t.due t.at queues (p.clocks t.core) own_due before calm queues) k (refl, refl)
+
+  pub late_on_time : t.core < cores → AreOnTime costless image cores s p → AreOnTime costless image cores s (record { held = p.held; clocks = lates; free = at_turn p.free t })
   late_on_time there on = record {
     going = on.going;
-    each = λ k below. lates_by (λ j c. IsOnTime image (s.cores j) (p.held j) c)
-        (late_time image t.due t.at (p.clocks t.core) (due_is (p.clocks t.core).next t.due due) before (s.cores t.core) (p.held t.core) (on.each t.core there)) k (on.each k below);
-    useful = all_useful p.clocks lates cores (λ k below. lates_by (λ j c. c.account.useful ≡ (p.clocks j).account.useful) refl k refl) ∙ on.useful;
+    each = λ k below. lates_by (λ j c. IsOnTime costless image (s.cores j) (p.held j) c)
+        (late_time costless image t.due t.at queues (p.clocks t.core) own_due before calm (s.cores t.core) (p.held t.core) (on.each t.core there)) k (on.each k below);
+    busy = same_sum (λ c. c.account.busy) p.clocks lates cores (λ k below. (lates_useful k).0) ∙ on.busy;
+    spent = λ none. same_sum (λ c. total c.account.spent) p.clocks lates cores (λ k below. ap total (lates_useful k).1) ∙ on.spent none;
   }
 
-  pub late_never_idle : IsNeverIdle (p.clocks 0) → IsNeverIdle (lates 0)
-  late_never_idle busy = subst IsNeverIdle (sym (each 0)) (by_first (0 == t.core) refl)
+  pub late_never_idle : queues ≡ false → IsNeverIdle (p.clocks 0) → IsNeverIdle (lates 0)
+  late_never_idle none busy = subst IsNeverIdle (sym (each 0)) (by_first (0 == t.core) refl)
     where
-      by_first : (here : Bool) → (0 == t.core) ≡ here → IsNeverIdle (cond here (late t.due t.at (p.clocks 0)) (p.clocks 0))
-      by_first true is = late_busy image t.due t.at (p.clocks 0) (due_is (p.clocks 0).next t.due (subst (λ k. due_of (p.clocks k).next ≡ Some t.due) (sym (eqb-true 0 t.core is)) due)) before busy
+      by_first : (here : Bool) → (0 == t.core) ≡ here → IsNeverIdle (cond here (late queues t.due t.at (p.clocks 0)) (p.clocks 0))
+      by_first true is =
+          late_busy costless image t.due t.at queues (p.clocks 0) (due_is (p.clocks 0).next t.due (subst (λ k. due_of (p.clocks k).next ≡ Some t.due) (sym (eqb-true 0 t.core is)) due)) before calm none
+          busy
       by_first false is = busy
 
 -- ---- a whole turn
@@ -273,24 +339,30 @@ abbrev pub paced : {S : Type 0} → Driver S → Driver S → Pace → Turn → 
 paced old new p t answer = record {
   held = with_held p.held t.core (held_after answer (p.held t.core));
   clocks = clocks_after old new p.clocks t answer;
-  now = t.at;
+  free = free_after p.free t.at t.price answer;
 }
 
-module _ {S : Type 0} (image : LoadedImage) (cores : ℕ) (s u : FlatState) (p : Pace) (old mid : Driver S) (t : Turn) (same_image : old.book.image ≡ image) (there : t.core < cores)
-    (due : due_of (p.clocks t.core).next ≡ Some t.at) (on : AreOnTime image cores s p) where
+module _ {S : Type 0} (costless : Bool) (image : LoadedImage) (cores : ℕ) (s u : FlatState) (p : Pace) (old mid : Driver S) (t : Turn) (same_image : old.book.image ≡ image) (there : t.core < cores)
+    (due : due_of (p.clocks t.core).next ≡ Some t.at) (free : costless ≡ true → total t.price.spent ≡ 0) (on : AreOnTime costless image cores s p) where
   abbrev clock : Clock
   clock = p.clocks t.core
+
+  abbrev e : Spent
+  e = t.price.spent
 
   is_due : clock.next ≡ Due t.at
   is_due = due_is clock.next t.at due
 
-  own_time : IsOnTime image (s.cores t.core) (p.held t.core) clock
+  own_time : IsOnTime costless image (s.cores t.core) (p.held t.core) clock
   own_time = on.each t.core there
 
-  abbrev turned : Answer → ℕ → Clock
-  turned answer k = cond (k == t.core) (answered t.at (restarts old mid) (executed_by old.book.image answer) answer (p.clocks k)) (p.clocks k)
+  abbrev answers : Answer → Clock
+  answers answer = answered t.at (restarts old mid) (executed_by old.book.image answer) e answer clock
 
-  own_turned : (answer : Answer) → turned answer t.core ≡ answered t.at (restarts old mid) (executed_by old.book.image answer) answer clock
+  abbrev turned : Answer → ℕ → Clock
+  turned answer k = cond (k == t.core) (answered t.at (restarts old mid) (executed_by old.book.image answer) e answer (p.clocks k)) (p.clocks k)
+
+  own_turned : (answer : Answer) → turned answer t.core ≡ answers answer
   own_turned answer = rw (eq-eqb t.core t.core refl) refl
 
   other_turned : (answer : Answer) (k : ℕ) → k ≢ t.core → turned answer k ≡ p.clocks k
@@ -304,31 +376,33 @@ module _ {S : Type 0} (image : LoadedImage) (cores : ℕ) (s u : FlatState) (p :
 
   -- each core after the turn, but for the wake
   turned_each : (answer : Answer) → ((k : ℕ) → k ≢ t.core → Moves (s.cores k) (u.cores k))
-      → IsOnTime image (u.cores t.core) (held_after answer (p.held t.core)) (answered t.at (restarts old mid) (executed_by old.book.image answer) answer clock)
-      → (k : ℕ) → k < cores → IsOnTime image (u.cores k) (with_held p.held t.core (held_after answer (p.held t.core)) k) (turned answer k)
+      → IsOnTime costless image (u.cores t.core) (held_after answer (p.held t.core)) (answers answer)
+      → (k : ℕ) → k < cores → IsOnTime costless image (u.cores k) (with_held p.held t.core (held_after answer (p.held t.core)) k) (turned answer k)
   turned_each answer others own k below = elim (cases_eq k t.core) [
-    | inl e ↦ subst (λ j. IsOnTime image (u.cores j) (with_held p.held t.core (held_after answer (p.held t.core)) j) (turned answer j)) (sym e)
-        (subst (λ c. IsOnTime image (u.cores t.core) (with_held p.held t.core (held_after answer (p.held t.core)) t.core) c) (sym (own_turned answer))
-        (subst (λ h. IsOnTime image (u.cores t.core) h (answered t.at (restarts old mid) (executed_by old.book.image answer) answer clock))
-        (sym (own_held (held_after answer (p.held t.core)))) own))
-    | inr other ↦ subst (λ c. IsOnTime image (u.cores k) (with_held p.held t.core (held_after answer (p.held t.core)) k) c) (sym (other_turned answer k other))
-        (subst (λ h. IsOnTime image (u.cores k) h (p.clocks k)) (sym (other_held (held_after answer (p.held t.core)) k other))
-        (moved image (s.cores k) (u.cores k) (p.held k) (p.clocks k) (others k other) (on.each k below)))
+    | inl e ↦ subst (λ j. IsOnTime costless image (u.cores j) (with_held p.held t.core (held_after answer (p.held t.core)) j) (turned answer j)) (sym e)
+        (subst (λ c. IsOnTime costless image (u.cores t.core) (with_held p.held t.core (held_after answer (p.held t.core)) t.core) c) (sym (own_turned answer))
+        (subst (λ h. IsOnTime costless image (u.cores t.core) h (answers answer)) (sym (own_held (held_after answer (p.held t.core)))) own))
+    | inr other ↦ subst (λ c. IsOnTime costless image (u.cores k) (with_held p.held t.core (held_after answer (p.held t.core)) k) c) (sym (other_turned answer k other))
+        (subst (λ h. IsOnTime costless image (u.cores k) h (p.clocks k)) (sym (other_held (held_after answer (p.held t.core)) k other))
+        (moved costless image (s.cores k) (u.cores k) (p.held k) (p.clocks k) (others k other) (on.each k below)))
   ]
 
-  turned_useful : (answer : Answer) (more : ℕ) → (answered t.at (restarts old mid) (executed_by old.book.image answer) answer clock).account.useful ≡ clock.account.useful + more
-      → useful_of (turned answer) cores ≡ useful_of p.clocks cores + more
-  turned_useful answer more own =
-      one_useful p.clocks (turned answer) t.core more cores (λ k other. ap (λ (c : Clock). c.account.useful) (other_turned answer k other))
-      (ap (λ (c : Clock). c.account.useful) (own_turned answer) ∙ own) there
+  turned_sum : (f : Clock → ℕ) (answer : Answer) (more : ℕ) → f (answers answer) ≡ f clock + more → sum_over f (turned answer) cores ≡ sum_over f p.clocks cores + more
+  turned_sum f answer more own =
+      one_sum f p.clocks (turned answer) t.core more cores (λ k other. ap f (other_turned answer k other)) (ap f (own_turned answer) ∙ own) there
 
   no_others : u ≡ s → (k : ℕ) → k ≢ t.core → Moves (s.cores k) (u.cores k)
   no_others same k other =
       let is = ap (λ (x : FlatState). x.cores k) same in record { idle = λ none. sym is ∙ none; runs = λ d at. (d, sym is ∙ at, λ unhurt. refl, refl) }
 
+  -- what was busy and spent, of the epochs up to this one
+  record AreCounted (answer : Answer) (n : ℕ) : Type 0 where
+    busy : busy_of (turned answer) cores ≡ instructions_in_order image n
+    spent : costless ≡ true → spent_of (turned answer) cores ≡ n + n
+
   record TurnedOn (answer : Answer) : Type 0 where
-    each : (k : ℕ) → k < cores → IsOnTime image (u.cores k) (with_held p.held t.core (held_after answer (p.held t.core)) k) (turned answer k)
-    useful : useful_of (turned answer) cores ≡ steps_in_order image u.homefree
+    each : (k : ℕ) → k < cores → IsOnTime costless image (u.cores k) (with_held p.held t.core (held_after answer (p.held t.core)) k) (turned answer k)
+    counted : AreCounted answer u.homefree
     going : (u.end ≡ None) ⊎ (u.homefree ≡ 0)
 
   same_going : u ≡ s → (u.end ≡ None) ⊎ (u.homefree ≡ 0)
@@ -337,56 +411,60 @@ module _ {S : Type 0} (image : LoadedImage) (cores : ℕ) (s u : FlatState) (p :
   none_more : (n : ℕ) → n ≡ n + 0
   none_more n = omega arith
 
-  still_useful : (answer : Answer) → u.homefree ≡ s.homefree → (answered t.at (restarts old mid) (executed_by old.book.image answer) answer clock).account.useful ≡ clock.account.useful
-      → useful_of (turned answer) cores ≡ steps_in_order image u.homefree
-  still_useful answer homefree own =
-      turned_useful answer 0 (own ∙ none_more _) ∙ (sym (none_more _) ∙ (on.useful ∙ ap (steps_in_order image) (sym homefree)))
+  still_counted : (answer : Answer) → u.homefree ≡ s.homefree → IsSameUseful clock.account (answers answer).account → AreCounted answer u.homefree
+  still_counted answer homefree own = record {
+    busy = turned_sum (λ c. c.account.busy) answer 0 (own.0 ∙ none_more _) ∙ (sym (none_more _) ∙ (on.busy ∙ ap (instructions_in_order image) (sym homefree)));
+    spent = λ none. turned_sum (λ c. total c.account.spent) answer 0 (ap total own.1 ∙ none_more _) ∙ (sym (none_more _) ∙ (on.spent none ∙ ap (λ n. n + n) (sym homefree)));
+  }
 
   goes : (hart : HartState) → GoesTo image s u t.core (p.held t.core) (restarts old mid) hart → TurnedOn (Go hart)
   goes hart g =
       let executes : executed_by old.book.image (Go hart) ≡ (next_event image hart).now.done - hart.done = ap (λ i. (next_event i hart).now.done - hart.done) same_image in
-      let is : answered t.at (restarts old mid) (executed_by old.book.image (Go hart)) (Go hart) clock ≡ gone_on image t.at (restarts old mid) hart clock =
-      ap (λ n. answered t.at (restarts old mid) n (Go hart) clock) executes in
+      let is : answers (Go hart) ≡ gone_on image t.at (restarts old mid) e hart clock = ap (λ n. answered t.at (restarts old mid) n e (Go hart) clock) executes in
       record {
-        each = turned_each (Go hart) g.others (subst (λ c. IsOnTime image (u.cores t.core) (Some hart) c) (sym is)
-            (goes_on_time image (u.cores t.core) g.now t.at (restarts old mid) hart clock g.runs g.hart_is
-            (goes_by image (s.cores t.core) (p.held t.core) t.at (restarts old mid) hart clock is_due g.from own_time)));
-        useful = still_useful (Go hart) g.homefree (same_useful t.at (restarts old mid) clock clock.runs (restarts old mid) refl refl);
+        each = turned_each (Go hart) g.others (subst (λ c. IsOnTime costless image (u.cores t.core) (Some hart) c) (sym is)
+            (goes_on_time costless image t.at (restarts old mid) e hart clock free (u.cores t.core) g.now g.runs g.hart_is
+            (goes_by costless image t.at (restarts old mid) e hart clock free (s.cores t.core) (p.held t.core) is_due g.from own_time)));
+        counted = still_counted (Go hart) g.homefree (same_useful t.at (restarts old mid) e clock clock.runs (restarts old mid) refl refl);
         going = inl g.going;
       }
 
   waits : (cause : Cause) → u ≡ s → waits_for cause t.at clock ≡ record clock { next = Waits t.at cause } → TurnedOn (Again cause)
   waits cause same is = record {
-    each = turned_each (Again cause) (no_others same) (subst (λ c. IsOnTime image (u.cores t.core) (p.held t.core) c) (sym is)
-        (subst (λ (x : FlatState). IsOnTime image (x.cores t.core) (p.held t.core) (record clock { next = Waits t.at cause })) (sym same)
-        (waits_on_time image (s.cores t.core) (p.held t.core) t.at cause clock is_due own_time)));
-    useful = still_useful (Again cause) (ap (λ (x : FlatState). x.homefree) same) (ap (λ (c : Clock). c.account.useful) is);
+    each = turned_each (Again cause) (no_others same) (subst (λ c. IsOnTime costless image (u.cores t.core) (p.held t.core) c) (sym is)
+        (subst (λ (x : FlatState). IsOnTime costless image (x.cores t.core) (p.held t.core) (record clock { next = Waits t.at cause })) (sym same)
+        (waits_on_time costless image (s.cores t.core) (p.held t.core) t.at cause clock is_due own_time)));
+    counted = still_counted (Again cause) (ap (λ (x : FlatState). x.homefree) same) (ap (λ (c : Clock). c.account.busy) is, ap (λ (c : Clock). c.account.spent) is);
     going = same_going same;
   }
 
   stops : s.cores t.core ≡ None → u ≡ s → TurnedOn (Again NoEpoch)
   stops idle same = record {
     each = turned_each (Again NoEpoch) (no_others same)
-        (subst (λ (x : FlatState). IsOnTime image (x.cores t.core) (p.held t.core) (record clock { next = Gone })) (sym same)
-        (subst (λ o. IsOnTime image o (p.held t.core) (record clock { next = Gone })) (sym idle) (subst (λ o. IsOnTime image o (p.held t.core) clock) idle own_time)));
-    useful = still_useful (Again NoEpoch) (ap (λ (x : FlatState). x.homefree) same) refl;
+        (subst (λ (x : FlatState). IsOnTime costless image (x.cores t.core) (p.held t.core) (record clock { next = Gone })) (sym same)
+        (subst (λ o. IsOnTime costless image o (p.held t.core) (record clock { next = Gone })) (sym idle) (subst (λ o. IsOnTime costless image o (p.held t.core) clock) idle own_time)));
+    counted = still_counted (Again NoEpoch) (ap (λ (x : FlatState). x.homefree) same) (refl, refl);
     going = same_going same;
   }
 
-  commit_useful : (answer : Answer) → Leaves image s u t.core → (answered t.at (restarts old mid) (executed_by old.book.image answer) answer clock).account ≡ (ended (t.at + 1) clock).account
-      → useful_of (turned answer) cores ≡ steps_in_order image u.homefree
-  commit_useful answer l is =
-      let was = was_time image (s.cores t.core) l.was (p.held t.core) t.at clock l.runs l.unhurt is_due own_time in
-      let own = ap (λ (a : Account). a.useful) is ∙ left_useful t.at (next_event image l.was.hart).now.done clock was.0 was.1 in
-      let more = turned_useful answer ((next_event image l.was.hart).now.done + 2) own in
-      let steps = steps_more image s.homefree in
-      let all : useful_of (turned answer) cores ≡ steps_in_order image (s.homefree + 1) = omega (arith, more, on.useful, steps, l.count) in
-      all ∙ ap (steps_in_order image) (sym l.homefree)
+  commits : (answer : Answer) → Leaves image s u t.core → (answers answer).account ≡ (left t.at e clock).account → AreCounted answer u.homefree
+  commits answer l is =
+      let was = was_time costless image (s.cores t.core) l.was (p.held t.core) t.at clock l.runs l.unhurt is_due own_time in
+      let own = ap (λ (a : Account). a.busy) is ∙ left_busy t.at (next_event image l.was.hart).now.done e clock was.0 was.1 in
+      let more = turned_sum (λ c. c.account.busy) answer (next_event image l.was.hart).now.done own in
+      let all : busy_of (turned answer) cores ≡ instructions_in_order image (s.homefree + 1) = omega (arith, more, on.busy, instructions_more image s.homefree, l.count) in
+      record {
+        busy = all ∙ ap (instructions_in_order image) (sym l.homefree);
+        spent = λ none.
+            let spent = ap (λ (a : Account). total a.spent) is ∙ left_spent t.at e clock was.0 in
+            let also = turned_sum (λ c. total c.account.spent) answer (total clock.spent + total e + 1) spent in
+            omega (arith, also, on.spent none, was.2 none, free none, l.homefree);
+      }
 
-  leaves : u.end ≡ None → Leaves image s u t.core → TurnedOn Left
-  leaves still l = record {
-    each = turned_each Left l.others (subst (λ o. IsOnTime image o None (record (ended (t.at + 1) clock) { next = Due (t.at + 1) })) (sym l.idle) refl);
-    useful = commit_useful Left l refl;
+  leaves_it : u.end ≡ None → Leaves image s u t.core → TurnedOn Left
+  leaves_it still l = record {
+    each = turned_each Left l.others (subst (λ o. IsOnTime costless image o None (answers Left)) (sym l.idle) refl);
+    counted = commits Left l refl;
     going = inl still;
   }
 
@@ -397,68 +475,77 @@ module _ {S : Type 0} (image : LoadedImage) (cores : ℕ) (s u : FlatState) (p :
   comes_by (Again NoWay) going came unstopped = waits NoWay came.same refl
   comes_by (Again OrbFull) going came unstopped = waits OrbFull came.same refl
   comes_by (Again OrbBusy) going came unstopped = waits OrbBusy came.same refl
-  comes_by Left going came unstopped = leaves came.0 came.1
+  comes_by Left going came unstopped = leaves_it came.0 came.1
   comes_by (Over end) going came unstopped = absurd (going end refl)
   comes_by (Stopped cause) going came unstopped = absurd (unstopped cause refl)
 
   -- and the wake
-  woken_each : (answer : Answer) (k : ℕ) (core : Option CoreState) (held : Option HartState) (clocks : ℕ → Clock) → IsWaitBefore t.at (clocks k).next → IsOnTime image core held (clocks k)
-      → IsOnTime image core held (woken_by answer t.at clocks k)
-  woken_each (Go hart) k core held clocks before is = woken_time image core held t.at (clocks k) before is
+  woken_each : (answer : Answer) (k : ℕ) (core : Option CoreState) (held : Option HartState) (clocks : ℕ → Clock) → IsWaitBefore t.at (clocks k).next → IsOnTime costless image core held (clocks k)
+      → IsOnTime costless image core held (woken_by answer t.at clocks k)
+  woken_each (Go hart) k core held clocks before is = woken_time costless image core held t.at (clocks k) before is
   woken_each (Again cause) k core held clocks before is = is
-  woken_each Left k core held clocks before is = woken_time image core held t.at (clocks k) before is
+  woken_each Left k core held clocks before is = woken_time costless image core held t.at (clocks k) before is
   woken_each (Over end) k core held clocks before is = is
   woken_each (Stopped cause) k core held clocks before is = is
 
-  woken_by_useful : (answer : Answer) (k : ℕ) (clocks : ℕ → Clock) → (woken_by answer t.at clocks k).account.useful ≡ (clocks k).account.useful
+  woken_by_useful : (answer : Answer) (k : ℕ) (clocks : ℕ → Clock) → IsSameUseful (clocks k).account (woken_by answer t.at clocks k).account
   woken_by_useful (Go hart) k clocks = woken_useful t.at (clocks k) (clocks k).next
-  woken_by_useful (Again cause) k clocks = refl
+  woken_by_useful (Again cause) k clocks = (refl, refl)
   woken_by_useful Left k clocks = woken_useful t.at (clocks k) (clocks k).next
-  woken_by_useful (Over end) k clocks = refl
-  woken_by_useful (Stopped cause) k clocks = refl
+  woken_by_useful (Over end) k clocks = (refl, refl)
+  woken_by_useful (Stopped cause) k clocks = (refl, refl)
 
   pub turn_on_time : (answer : Answer) → ((end : End) → answer ≢ Over end) → ((cause : StopCause) → answer ≢ Stopped cause)
-      → Came image s u t.core (p.held t.core) (restarts old mid) answer → ((k : ℕ) → k < cores → IsSound t.at (turned answer k))
-      → AreOnTime image cores u (paced old mid p t answer)
-  turn_on_time answer going unstopped came sound =
+      → Came image s u t.core (p.held t.core) (restarts old mid) answer → ((k : ℕ) → k < cores → IsWaitBefore t.at (turned answer k).next)
+      → AreOnTime costless image cores u (paced old mid p t answer)
+  turn_on_time answer going unstopped came before =
       let is = comes_by answer going came unstopped in record {
-        each = λ k below. woken_each answer k (u.cores k) _ (turned answer) (may_wake t.at (turned answer k) (sound k below)).before (is.each k below);
-        useful = all_useful (turned answer) (clocks_after old mid p.clocks t answer) cores (λ k below. woken_by_useful answer k (turned answer)) ∙ is.useful;
+        each = λ k below. woken_each answer k (u.cores k) _ (turned answer) (before k below) (is.each k below);
+        busy = same_sum (λ c. c.account.busy) (turned answer) (clocks_after old mid p.clocks t answer) cores (λ k below. (woken_by_useful answer k (turned answer)).0) ∙ is.counted.busy;
+        spent = λ none. same_sum (λ c. total c.account.spent) (turned answer) (clocks_after old mid p.clocks t answer) cores (λ k below. ap total (woken_by_useful answer k (turned answer)).1)
+            ∙ is.counted.spent none;
         going = is.going;
       }
 
   -- the loop is done
-  over_by : (n : ℕ) → (u.homefree ≡ n) × (Leaves image s u t.core ⊎ WasOver s u t.core n) → useful_of (turned (Over (Done n))) cores ≡ steps_in_order image n
-  over_by n came = elim came.1 [
-    | inl l ↦ commit_useful (Over (Done n)) l refl ∙ ap (steps_in_order image) came.0
-    | inr w ↦ still_useful (Over (Done n)) w.homefree (idle_useful (t.at + 1) clock (subst (λ o. IsOnTime image o (p.held t.core) clock) w.idle own_time))
-        ∙ ap (steps_in_order image) came.0
-  ]
+  over_by : (n : ℕ) → (u.homefree ≡ n) × (Leaves image s u t.core ⊎ WasOver s u t.core n) → AreCounted (Over (Done n)) n
+  over_by n came = subst (AreCounted (Over (Done n))) came.0 (elim came.1 [
+    | inl l ↦ commits (Over (Done n)) l refl
+    | inr w ↦ still_counted (Over (Done n)) w.homefree (idle_useful t.at e clock (subst (λ o. IsOnTime costless image o (p.held t.core) clock) w.idle own_time))
+  ])
 
-  pub over_useful : (n : ℕ) (clocks' : ℕ → Clock) (account : Account) → Came image s u t.core (p.held t.core) (restarts old mid) (Over (Done n))
-      → ((k : ℕ) → clocks' k ≡ clocks_after old mid p.clocks t (Over (Done n)) k) → account ≡ account_of (t.at + 1) clocks' cores → account.useful ≡ steps_in_order image n
-  over_useful n clocks' account came are sum =
-      ap (λ (a : Account). a.useful) sum ∙ (account_useful (t.at + 1) clocks' cores
-      ∙ (all_useful (turned (Over (Done n))) clocks' cores (λ k below. ap (λ (c : Clock). c.account.useful) (are k)) ∙ over_by n came))
+  module _ (n end : ℕ) (clocks' : ℕ → Clock) (account : Account) (came : Came image s u t.core (p.held t.core) (restarts old mid) (Over (Done n)))
+      (are : (k : ℕ) → clocks' k ≡ clocks_after old mid p.clocks t (Over (Done n)) k) (sum : account ≡ account_of end clocks' cores) where
+    pub over_busy : account.busy ≡ instructions_in_order image n
+    over_busy =
+        ap (λ (a : Account). a.busy) sum ∙ (account_busy end clocks' cores
+        ∙ (same_sum (λ c. c.account.busy) (turned (Over (Done n))) clocks' cores (λ k below. ap (λ (c : Clock). c.account.busy) (are k)) ∙ (over_by n came).busy))
+
+    pub over_useful : costless ≡ true → useful_in account ≡ steps_in_order image n
+    over_useful none =
+        let spent : total account.spent ≡ n + n =
+        ap (λ (a : Account). total a.spent) sum ∙ (account_spent end clocks' cores
+        ∙ (same_sum (λ c. total c.account.spent) (turned (Over (Done n))) clocks' cores (λ k below. ap (λ (c : Clock). total c.account.spent) (are k)) ∙ (over_by n came).spent none)) in
+        omega (arith, over_busy, spent, steps_are image n)
 
   -- ---- the one core that there is
 
   runs_on : (b : CoreState) → s.cores t.core ≡ Some b → b.hurt ≡ false → clock.runs ≡ true
-  runs_on b is unhurt = (was_time image (s.cores t.core) b (p.held t.core) t.at clock is unhurt is_due own_time).0
+  runs_on b is unhurt = (was_time costless image (s.cores t.core) b (p.held t.core) t.at clock is unhurt is_due own_time).0
 
   stays_busy : (cause : Cause) → StaysAt s u t.core → IsNeverIdle clock → waits_for cause t.at clock ≡ record clock { next = Waits t.at cause } → IsNeverIdle (waits_for cause t.at clock)
   stays_busy cause l busy is = subst IsNeverIdle (sym is) (waits_busy t.at cause clock (runs_on l.was l.runs l.unhurt) busy)
 
   own_busy : (answer : Answer) → ((end : End) → answer ≢ Over end) → Came image s u t.core (p.held t.core) (restarts old mid) answer → IsNeverIdle clock
-      → IsNeverIdle (woken_by answer t.at (λ _. answered t.at (restarts old mid) (executed_by old.book.image answer) answer clock) t.core)
+      → IsNeverIdle (woken_by answer t.at (λ _. answers answer) t.core)
   own_busy (Go hart) going came busy =
-      begun_busy t.at (t.at + 1 + executed_by old.book.image (Go hart)) (restarts old mid) clock clock.runs (restarts old mid) refl refl is_due busy
+      begun_busy t.at (t.at + 1 + total e + executed_by old.book.image (Go hart)) (restarts old mid) e clock clock.runs (restarts old mid) refl refl is_due busy
   own_busy (Again NoEpoch) going came busy = record { idle = busy.idle; due = λ none. tt }
   own_busy (Again NotHomefree) going came busy = stays_busy NotHomefree came busy refl
   own_busy (Again NoWay) going came busy = stays_busy NoWay came busy refl
   own_busy (Again OrbFull) going came busy = stays_busy OrbFull came busy refl
   own_busy (Again OrbBusy) going came busy = stays_busy OrbBusy came busy refl
-  own_busy Left going came busy = left_busy t.at clock (runs_on came.1.was came.1.runs came.1.unhurt) busy
+  own_busy Left going came busy = left_never_idle t.at e clock (runs_on came.1.was came.1.runs came.1.unhurt) busy
   own_busy (Over end) going came busy = absurd (going end refl)
   own_busy (Stopped cause) going came busy = busy
 
@@ -472,8 +559,7 @@ module _ {S : Type 0} (image : LoadedImage) (cores : ℕ) (s u : FlatState) (p :
   pub turn_busy : (answer : Answer) → ((end : End) → answer ≢ Over end) → Came image s u t.core (p.held t.core) (restarts old mid) answer → IsNeverIdle clock
       → IsNeverIdle (clocks_after old mid p.clocks t answer t.core)
   turn_busy answer going came busy =
-      subst IsNeverIdle (sym (busy_by answer t.core (turned answer) (λ _. answered t.at (restarts old mid) (executed_by old.book.image answer) answer clock) (own_turned answer)))
-      (own_busy answer going came busy)
+      subst IsNeverIdle (sym (busy_by answer t.core (turned answer) (λ _. answers answer) (own_turned answer))) (own_busy answer going came busy)
 
   -- the loop wasn't done before, where it has an epoch
   wasnt_over : (n : ℕ) → u.homefree ≡ suc n → WasOver s u t.core (suc n) → ⊥
@@ -488,87 +574,108 @@ module _ {S : Type 0} (image : LoadedImage) (cores : ℕ) (s u : FlatState) (p :
     | inr w ↦ absurd (wasnt_over n came.0 w)
   ]
 
-  pub over_busy : (n : ℕ) (clocks' : ℕ → Clock) (account : Account) → Came image s u t.core (p.held t.core) (restarts old mid) (Over (Done (suc n))) → IsNeverIdle clock
-      → t.core ≡ 0 → cores ≡ 1 → ((k : ℕ) → clocks' k ≡ clocks_after old mid p.clocks t (Over (Done (suc n))) k) → account ≡ account_of (t.at + 1) clocks' cores → account.idle ≡ 0
-  over_busy n clocks' account came busy first one are sum =
-      let now = answered t.at (restarts old mid) (executed_by old.book.image (Over (Done (suc n)))) (Over (Done (suc n))) clock in
+  pub over_never_idle : (n end : ℕ) (clocks' : ℕ → Clock) (account : Account) → Came image s u t.core (p.held t.core) (restarts old mid) (Over (Done (suc n))) → IsNeverIdle clock
+      → end ≡ t.at + 1 + total e → t.core ≡ 0 → cores ≡ 1 → ((k : ℕ) → clocks' k ≡ clocks_after old mid p.clocks t (Over (Done (suc n))) k) → account ≡ account_of end clocks' cores
+      → account.idle ≡ 0
+  over_never_idle n end clocks' account came busy is first one are sum =
+      let now = answers (Over (Done (suc n))) in
       let own : clocks' 0 ≡ now = ap clocks' (sym first) ∙ (are t.core ∙ own_turned (Over (Done (suc n)))) in
-      let all : account ≡ sum_of no_steps (closed (t.at + 1) now).account =
-      sum ∙ (ap (account_of (t.at + 1) clocks') one ∙ (account_one (t.at + 1) clocks' ∙ ap (λ c. sum_of no_steps (closed (t.at + 1) c).account) own)) in
-      ap (λ (a : Account). a.idle) all ∙ over_idle t.at clock (over_runs n came) busy
+      let all : account ≡ sum_of no_steps (closed end now).account =
+      sum ∙ (ap (account_of end clocks') one ∙ (account_one end clocks' ∙ ap (λ c. sum_of no_steps (closed end c).account) own)) in
+      ap (λ (a : Account). a.idle) all ∙ over_idle t.at end e clock is (over_runs n came) busy
 
 -- ---- the start of the run
 
-first_useful : (n : ℕ) → useful_of (λ _. first_clock) n ≡ 0
-first_useful zero = useful_of-none (λ _. first_clock)
-first_useful (suc n) = omega (arith, first_useful n, useful_of-more (λ _. first_clock) n)
+first_sum : (f : Clock → ℕ) (n : ℕ) → f first_clock ≡ 0 → sum_over f (λ _. first_clock) n ≡ 0
+first_sum f zero none = sum_over-none f (λ _. first_clock)
+first_sum f (suc n) none = omega (arith, first_sum f n none, sum_over-more f (λ _. first_clock) n, none)
 
-pub first_on_time : (image : LoadedImage) (cores : ℕ) (history : List Entry) (s : FlatState) → history ≡ [] → replay image cores history ≡ Some s → AreOnTime image cores s at_first
-first_on_time image cores history s none replays =
+pub first_on_time : (costless : Bool) (image : LoadedImage) (cores : ℕ) (history : List Entry) (s : FlatState) → history ≡ [] → replay image cores history ≡ Some s
+    → AreOnTime costless image cores s at_first
+first_on_time costless image cores history s none replays =
     let is : first_state image ≡ s = first_is (sym (no_entries image cores) ∙ (ap (replay image cores) (sym none) ∙ replays)) in
-    subst (λ x. AreOnTime image cores x at_first) is (record { each = λ k below. refl; useful = first_useful cores ∙ sym (steps_none image); going = inr refl })
+    subst (λ x. AreOnTime costless image cores x at_first) is (record {
+      each = λ k below. refl;
+      busy = first_sum (λ c. c.account.busy) cores refl ∙ sym (instructions_none image);
+      spent = λ none. first_sum (λ c. total c.account.spent) cores refl;
+      going = inr refl;
+    })
   where
     first_is : Some (first_state image) ≡ Some s → first_state image ≡ s
     first_is e = cc
 
-pub start_on_time : (image : LoadedImage) (cores : ℕ) (history : List Entry) (s : FlatState) (p : Pace) → history ≡ [] → replay image cores history ≡ Some s → p ≡ at_first
-    → AreOnTime image cores s p
-start_on_time image cores history s p none replays is = subst (λ q. AreOnTime image cores s q) (sym is) (first_on_time image cores history s none replays)
+pub start_on_time : (costless : Bool) (image : LoadedImage) (cores : ℕ) (history : List Entry) (s : FlatState) (p : Pace) → history ≡ [] → replay image cores history ≡ Some s → p ≡ at_first
+    → AreOnTime costless image cores s p
+start_on_time costless image cores history s p none replays is =
+    subst (λ q. AreOnTime costless image cores s q) (sym is) (first_on_time costless image cores history s none replays)
 
 -- ---- along a run
 
-abbrev pub Timed : {S : Type 0} → BookView S → Pace → Type 0
-Timed b p = (s : FlatState) × (replay b.image b.cores b.history ≡ Some s) × AreOnTime b.image b.cores s p
+abbrev pub Timed : {S : Type 0} → Bool → BookView S → Pace → Type 0
+Timed costless b p = (s : FlatState) × (replay b.image b.cores b.history ≡ Some s) × AreOnTime costless b.image b.cores s p
 
 -- as a turn begins
-pub late_timed : {S : Type 0} (b : BookView S) (p : Pace) (lates : ℕ → Clock) (t : Turn) → due_of (p.clocks t.core).next ≡ Some t.due → t.due ≤ t.at → ((k : ℕ) → lates k ≡ late_clocks p.clocks t k)
-    → t.core < b.cores → Timed b p → Timed b (record { held = p.held; clocks = lates; now = t.at })
-late_timed b p lates t due before each there timed = (timed.0, timed.1, late_on_time b.image b.cores timed.0 p lates t due before each there timed.2)
+pub late_timed : {S : Type 0} (costless : Bool) (b : BookView S) (p : Pace) (queues : Bool) (lates : ℕ → Clock) (t : Turn) → due_of (p.clocks t.core).next ≡ Some t.due → t.due ≤ t.at
+    → (costless ≡ true → queues ≡ false) → ((k : ℕ) → lates k ≡ late_clocks queues p.clocks t k) → t.core < b.cores → Timed costless b p
+    → Timed costless b (record { held = p.held; clocks = lates; free = at_turn p.free t })
+late_timed costless b p queues lates t due before calm each there timed =
+    (timed.0, timed.1, late_on_time costless b.image b.cores timed.0 p queues lates t due before calm each there timed.2)
 
-same_book : {S : Type 0} (old new : BookView S) (s : FlatState) (p : Pace) → IsOfSameLoop old new → AreOnTime old.image old.cores s p → AreOnTime new.image new.cores s p
-same_book old new s p same on = rw (same.image, same.cores) on
+same_book : {S : Type 0} (costless : Bool) (old new : BookView S) (s : FlatState) (p : Pace) → IsOfSameLoop old new → AreOnTime costless old.image old.cores s p → AreOnTime costless new.image new.cores s p
+same_book costless old new s p same on = rw (same.image, same.cores) on
 
-module _ {S : Type 0} (old mid : Driver S) (p : Pace) (t : Turn) (same : IsOfSameLoop old.book mid.book) (first : IsTurnOf p.clocks old.book.cores t) (timed : Timed old.book p) where
-  here : (result : Result Answer TurnFault) (l : Leads old mid t.core (p.held t.core) result) → AreOnTime old.book.image old.book.cores l.before p
+module _ {S : Type 0} (costless : Bool) (old mid : Driver S) (p : Pace) (t : Turn) (same : IsOfSameLoop old.book mid.book) (first : IsTurnOf p.clocks old.book.cores t)
+    (free : costless ≡ true → total t.price.spent ≡ 0) (timed : Timed costless old.book p) where
+  here : (result : Result Answer TurnFault) (l : Leads old mid t.core (p.held t.core) result) → AreOnTime costless old.book.image old.book.cores l.before p
   here result l =
-      subst (λ x. AreOnTime old.book.image old.book.cores x p)
+      subst (λ x. AreOnTime costless old.book.image old.book.cores x p)
       (one_value (replay old.book.image old.book.cores old.book.history) timed.0 l.before timed.1 l.led) timed.2
 
   pub timed_on : (answer : Answer) (p' : Pace) → Leads old mid t.core (p.held t.core) (Ok answer) → ((end : End) → answer ≢ Over end) → ((cause : StopCause) → answer ≢ Stopped cause)
       → ((k : ℕ) → p'.held k ≡ with_held p.held t.core (held_after answer (p.held t.core)) k) → ((k : ℕ) → p'.clocks k ≡ clocks_after old mid p.clocks t answer k)
-      → p'.now ≡ t.at → ((k : ℕ) → k < old.book.cores → IsSound t.at (cond (k == t.core) (answered t.at (restarts old mid) (executed_by old.book.image answer) answer (p.clocks k)) (p.clocks k)))
-      → Timed mid.book p'
-  timed_on answer p' l going unstopped held_is clocks_are now_is sound =
+      → p'.free ≡ free_after p.free t.at t.price answer
+      → ((k : ℕ) → k < old.book.cores
+      → IsWaitBefore t.at (cond (k == t.core) (answered t.at (restarts old mid) (executed_by old.book.image answer) t.price.spent answer (p.clocks k)) (p.clocks k)).next)
+      → Timed costless mid.book p'
+  timed_on answer p' l going unstopped held_is clocks_are free_is before =
       let held_path = fun_ext held_is in
       let clocks_path = fun_ext clocks_are in
-      let same_pace : p' ≡ paced old mid p t answer = λ i. record { held = held_path i; clocks = clocks_path i; now = now_is i } in (
+      let same_pace : p' ≡ paced old mid p t answer = λ i. record { held = held_path i; clocks = clocks_path i; free = free_is i } in (
         l.after,
         l.leads,
-        same_book old.book mid.book l.after p' same (subst (λ q. AreOnTime old.book.image old.book.cores l.after q) (sym same_pace)
-            (turn_on_time old.book.image old.book.cores l.before l.after p old mid t refl first.core first.due (here (Ok answer) l) answer going unstopped l.came sound)),
+        same_book costless old.book mid.book l.after p' same (subst (λ q. AreOnTime costless old.book.image old.book.cores l.after q) (sym same_pace)
+            (turn_on_time costless old.book.image old.book.cores l.before l.after p old mid t refl first.core first.due free (here (Ok answer) l) answer going unstopped l.came before)),
       )
 
-  pub over_timed : (end : End) (n : ℕ) (clocks' : ℕ → Clock) (account : Account) → Leads old mid t.core (p.held t.core) (Ok (Over end)) → end ≡ Done n
-      → ((k : ℕ) → clocks' k ≡ clocks_after old mid p.clocks t (Over end) k) → account ≡ account_of (t.at + 1) clocks' old.book.cores
-      → account.useful ≡ steps_in_order old.book.image n
-  over_timed end n clocks' account l is are sum =
-      let done : Leads old mid t.core (p.held t.core) (Ok (Over (Done n))) = subst (λ e. Leads old mid t.core (p.held t.core) (Ok (Over e))) is l in
-      over_useful old.book.image old.book.cores done.before done.after p old mid t refl first.core first.due (here (Ok (Over (Done n))) done) n clocks' account done.came
-      (λ k. are k ∙ ap (λ e. clocks_after old mid p.clocks t (Over e) k) is) sum
+  module _ (end : End) (n steps : ℕ) (clocks' : ℕ → Clock) (account : Account) (l : Leads old mid t.core (p.held t.core) (Ok (Over end))) (is : end ≡ Done n)
+      (are : (k : ℕ) → clocks' k ≡ clocks_after old mid p.clocks t (Over end) k) (sum : account ≡ account_of steps clocks' old.book.cores) where
+    done : Leads old mid t.core (p.held t.core) (Ok (Over (Done n)))
+    done = subst (λ e. Leads old mid t.core (p.held t.core) (Ok (Over e))) is l
+
+    done_are : (k : ℕ) → clocks' k ≡ clocks_after old mid p.clocks t (Over (Done n)) k
+    done_are k = are k ∙ ap (λ e. clocks_after old mid p.clocks t (Over e) k) is
+
+    pub busy_timed : account.busy ≡ instructions_in_order old.book.image n
+    busy_timed =
+        over_busy costless old.book.image old.book.cores done.before done.after p old mid t refl first.core first.due free (here (Ok (Over (Done n))) done) n steps clocks' account done.came done_are sum
+
+    pub over_timed : costless ≡ true → useful_in account ≡ steps_in_order old.book.image n
+    over_timed =
+        over_useful costless old.book.image old.book.cores done.before done.after p old mid t refl first.core first.due free (here (Ok (Over (Done n))) done) n steps clocks' account done.came done_are sum
 
   pub busy_on : (answer : Answer) (p' : Pace) → Leads old mid t.core (p.held t.core) (Ok answer) → ((end : End) → answer ≢ Over end)
       → ((k : ℕ) → p'.clocks k ≡ clocks_after old mid p.clocks t answer k) → t.core ≡ 0 → IsNeverIdle (p.clocks 0) → IsNeverIdle (p'.clocks 0)
   busy_on answer p' l going clocks_are at_zero busy =
-      let own = turn_busy old.book.image old.book.cores l.before l.after p old mid t refl first.core first.due (here (Ok answer) l) answer going l.came
+      let own = turn_busy costless old.book.image old.book.cores l.before l.after p old mid t refl first.core first.due free (here (Ok answer) l) answer going l.came
       (subst (λ k. IsNeverIdle (p.clocks k)) (sym at_zero) busy) in
       subst (λ k. IsNeverIdle (p'.clocks k)) at_zero (subst IsNeverIdle (sym (clocks_are t.core)) own)
 
-  pub over_steps : (end : End) (n : ℕ) (clocks' : ℕ → Clock) (account : Account) → Leads old mid t.core (p.held t.core) (Ok (Over end)) → end ≡ Done (suc n)
-      → ((k : ℕ) → clocks' k ≡ clocks_after old mid p.clocks t (Over end) k) → account ≡ account_of (t.at + 1) clocks' old.book.cores → t.core ≡ 0 → old.book.cores ≡ 1
-      → IsNeverIdle (p.clocks 0) → WastesNone account → steps_of account ≡ 1 * (t.at + 1) → t.at + 1 ≡ steps_in_order old.book.image (suc n)
-  over_steps end n clocks' account l is are sum at_zero one busy wastes whole =
-      let done : Leads old mid t.core (p.held t.core) (Ok (Over (Done (suc n)))) = subst (λ e. Leads old mid t.core (p.held t.core) (Ok (Over e))) is l in
-      let idle = over_busy old.book.image old.book.cores done.before done.after p old mid t refl first.core first.due (here (Ok (Over (Done (suc n)))) done) n clocks' account done.came
-      (subst (λ k. IsNeverIdle (p.clocks k)) (sym at_zero) busy) at_zero one (λ k. are k ∙ ap (λ e. clocks_after old mid p.clocks t (Over e) k) is) sum in
-      let useful = over_timed end (suc n) clocks' account l is are sum in
-      omega (arith, idle, useful, wastes.lost, wastes.dropped, wastes.waiting, wastes.held, whole)
+  pub over_steps : (end : End) (n steps : ℕ) (clocks' : ℕ → Clock) (account : Account) → Leads old mid t.core (p.held t.core) (Ok (Over end)) → end ≡ Done (suc n)
+      → ((k : ℕ) → clocks' k ≡ clocks_after old mid p.clocks t (Over end) k) → account ≡ account_of steps clocks' old.book.cores → costless ≡ true → steps ≡ t.at + 1 + total t.price.spent
+      → t.core ≡ 0 → old.book.cores ≡ 1 → IsNeverIdle (p.clocks 0) → WastesNone account → account.held ≡ 0 → steps_of account ≡ 1 * steps → steps ≡ steps_in_order old.book.image (suc n)
+  over_steps end n steps clocks' account l is are sum none last at_zero one busy wastes unheld whole =
+      let d = done end (suc n) steps clocks' account l is are sum in
+      let idle = over_never_idle costless old.book.image old.book.cores d.before d.after p old mid t refl first.core first.due free (here (Ok (Over (Done (suc n)))) d) n steps clocks' account d.came
+      (subst (λ k. IsNeverIdle (p.clocks k)) (sym at_zero) busy) last at_zero one (done_are end (suc n) steps clocks' account l is are sum) sum in
+      let useful = over_timed end (suc n) steps clocks' account l is are sum none in
+      omega (arith, idle, useful, wastes.lost, wastes.dropped, wastes.waiting, unheld, whole)

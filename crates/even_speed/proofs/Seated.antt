@@ -1,5 +1,5 @@
 -- What the code keeps of each core is what the history leads to, and so is which cores are held.
-use Rattle.std.proofs.Common.{◌≡◌, ℕ, ◌==◌, ◌/◌, ◌&&◌, ◌||◌, not, is_none, nat_le, Bool, true, false, cond, List, [], ◌∷◌, ◌++◌, length, take, drop, get_or, All, ◌+◌, ◌-◌, ◌<◌, ◌≤◌, Option, Some, None, option_map, refl, sym, ap, subst, ◌∙◌, inl, inr, arith, eq-eqb, ne_eqb, true≢false}
+use Rattle.std.proofs.Common.{◌≡◌, ℕ, ◌==◌, ◌/◌, ◌&&◌, ◌||◌, not, is_none, nat_le, Bool, true, false, cond, List, [], ◌∷◌, ◌++◌, length, take, drop, get_or, All, ◌+◌, ◌-◌, ◌<◌, ◌≤◌, Option, Some, None, option_map, refl, sym, ap, subst, ◌∙◌, inl, inr, arith, eq-eqb, eqb-true, ne_eqb, true≢false}
 use Rattle.std.specs.List.{list_any}
 use Rattle.std.proofs.Math.Dec.{eqb-suc-zero}
 use Rattle.std.proofs.Math.Path.{fun_ext}
@@ -8,7 +8,7 @@ use Rattle.std.proofs.lemmas.List.Elements.{All-drop, All-head, All-tail, All-we
 use Rattle.std.proofs.Math.Seq.{take-append_seam, take-length}
 use Rattle.std.proofs.Math.ListN.{replicate, length-replicate}
 use native.Mathlib.Decide.{dec_lt}
-use Rattle.std.proofs.lemmas.Bool.{cases_eq}
+use Rattle.std.proofs.lemmas.Bool.{and_parts, cases_eq}
 use Rattle.std.proofs.lemmas.Option.{same_Some}
 use Rattle.rv32_image.specs.Image.{LoadedImage}
 use Rattle.rv32_exec.specs.declared.stop.Stop.{Stop}
@@ -28,7 +28,7 @@ use Rattle.homefree.specs.Driven.{arrival_of}
 use Rattle.even_speed.specs.declared.seats.Seat.{Seat}
 use Rattle.even_speed.specs.Kept.{is_held_in}
 use Rattle.even_speed.specs.Held.{Holding, are_held, epoch_run, held_in, is_held, is_stored, own_run, reads_stored, waits_by}
-use Rattle.even_speed.specs.Holds.{HoldsNone, HoldsView, has_stores, holding_of}
+use Rattle.even_speed.specs.Holds.{HoldsNone, HoldsView, has_stores, holding_of, holds_none}
 use Rattle.even_speed.specs.Owns.{Owned, none_own, owns_after}
 use Rattle.even_speed.proofs.Owning.{owned_all}
 use Rattle.even_speed.specs.Seats.{epoch_kept, hurt_seat, left_seat, none_seated, noted_by, noted_idle, noted_on, seat_at, seat_of, seats_after, seats_of}
@@ -192,8 +192,19 @@ no_cores_held holds places none image None hands k = refl
 no_cores_held holds places none image (Some s) hands k = none_held holds places none image s.homefree (epoch_run (s.cores k)) (own_run (s.cores k)) (hands k)
 
 -- where no load waits no core is held
-pub held_in_none : {S : Type 0} (b : BookView S) (v : HoldsView) (hands : ℕ → Option HartState) (k : ℕ) → HoldsNone v → held_in (holding_of v) b hands k ≡ false
-held_in_none b v hands k none =
+-- the test says so
+none_in : (v : HoldsView) → holds_none v ≡ true → HoldsNone v
+none_in v is =
+    let both = and_parts (length v.places == 0) (length v.stores == 0) is in
+    record { places = empty v.places (eqb-true (length v.places) 0 both.0); stores = empty v.stores (eqb-true (length v.stores) 0 both.1) }
+  where
+    empty : {A : Type 0} (xs : List A) → length xs ≡ 0 → xs ≡ []
+    empty [] is = refl
+    empty (x ∷ xs) is = absurd cc
+
+pub held_in_none : {S : Type 0} (b : BookView S) (v : HoldsView) (hands : ℕ → Option HartState) (k : ℕ) → holds_none v ≡ true → held_in (holding_of v) b hands k ≡ false
+held_in_none b v hands k is =
+    let none = none_in v is in
     no_cores_held (holding_of v) (λ pc. ap (list_any (λ a. a == pc)) none.places) (λ d piece. ap (list_any (λ (s : ℕ × ℕ). (s.0 == piece) && (s.1 == d))) none.stores) b.image
     (replay b.image b.cores b.history) hands k
 

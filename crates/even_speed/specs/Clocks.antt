@@ -1,22 +1,26 @@
 -- The clock of a core: when its next turn is due, and where its steps went.
 -- Source: this project, after the limit study of Oplinger, Heine and Lam, "In Search of Speculative Thread-Level Parallelism", PACT 1999: each
--- instruction takes one step, and there is no latency. So do a begin, a restart and a commit.
-use Rattle.std.specs.Prelude.{◌≡◌, ℕ, zero, suc, ◌+◌, ◌-◌, ◌<◌, ◌≤◌, ◌==◌, nat_le, Bool, true, false, List, Option, Some, None, if◌then◌else◌}
+-- instruction takes one step, and so do a begin, a restart and a commit. What a turn costs comes on top.
+use Rattle.std.specs.Prelude.{◌≡◌, ℕ, zero, suc, ◌+◌, ◌-◌, ◌<◌, ◌≤◌, ◌==◌, Bool, true, false, List, Option, Some, None, if◌then◌else◌}
 use Rattle.std.specs.List.{slice_index_or}
 use Rattle.homefree.specs.declared.answer.Answer.{Answer}
 use Rattle.homefree.specs.declared.answer.Answer.TheVariants.{Go, Again, Left, Over, Stopped}
 use Rattle.homefree.specs.declared.answer.Cause.{Cause}
 use Rattle.homefree.specs.declared.answer.Cause.TheVariants.{NoEpoch, NotHomefree, NoWay, OrbFull, OrbBusy}
 use Rattle.even_speed.specs.declared.account.Account.{Account}
+use Rattle.even_speed.specs.declared.account.Spent.{Spent}
 use Rattle.even_speed.specs.declared.clock.Clock.{Clock}
 use Rattle.even_speed.specs.declared.clock.Next.{Next}
 use Rattle.even_speed.specs.declared.clock.Next.TheVariants.{Due, Waits, Gone}
 use Rattle.even_speed.specs.declared.clocks.Turn.{Turn}
-use Rattle.even_speed.specs.Account.{no_steps, sum_of, with_waited, with_hold, with_useful, with_lost, with_dropped, with_idle}
+use Rattle.even_speed.specs.declared.pricing.Free.{Free}
+use Rattle.even_speed.specs.declared.pricing.Price.{Price}
+use Rattle.even_speed.specs.Account.{both, no_steps, nothing_spent, one_more, sum_of, total, with_waited, with_hold, with_useful, with_lost, with_dropped, with_idle, with_queue}
+use Rattle.even_speed.specs.Pricing.{begins}
 
 -- at the start each core is due, and has no epoch
 abbrev pub first_clock : Clock
-first_clock = record { next = Due 0; runs = false; since = 0; waited = 0; account = no_steps }
+first_clock = record { next = Due 0; runs = false; since = 0; waited = 0; spent = nothing_spent; account = no_steps }
 
 -- the clock of each core
 abbrev pub clock_at : List Clock → ℕ → Clock
@@ -33,26 +37,26 @@ due_of Gone = None
 abbrev pub dues : (ℕ → Bool) → (ℕ → Clock) → ℕ → Option ℕ
 dues held clocks k = if held k then None else due_of (clocks k).next
 
--- when a turn begins: as soon as it is due, but never before the last one
-abbrev pub later : ℕ → ℕ → ℕ
-later now due = if nat_le now due then due else now
-
--- of the cores 0 to n - 1 it is due at this time, none is due before, and none with a lower number is due at this time; so none could begin
--- sooner
-pub record IsFirst (now : ℕ) (dues : ℕ → Option ℕ) (n : ℕ) (t : Turn) : Type 0 where
+-- of the cores 0 to n - 1 this one is due, and of what is free its turn begins then; none could begin before, of those that could begin then none was
+-- due before, and of those none has a lower number
+pub record IsFirst (free : Free) (prices : ℕ → Price) (dues : ℕ → Option ℕ) (n : ℕ) (t : Turn) : Type 0 where
   pub core : t.core < n
   pub due : dues t.core ≡ Some t.due
-  pub least : (k due : ℕ) → k < n → dues k ≡ Some due → t.due ≤ due
-  pub lowest : (k : ℕ) → k < n → dues k ≡ Some t.due → t.core ≤ k
-  pub begins : t.at ≡ later now t.due
+  pub price : t.price ≡ prices t.core
+  pub begins_at : t.at ≡ begins free t.price t.due
+  pub soonest : (k due : ℕ) → k < n → dues k ≡ Some due → t.at ≤ begins free (prices k) due
+  pub longest : (k due : ℕ) → k < n → dues k ≡ Some due → begins free (prices k) due ≡ t.at → t.due ≤ due
+  pub lowest : (k : ℕ) → k < n → dues k ≡ Some t.due → begins free (prices k) t.due ≡ t.at → t.core ≤ k
 
--- a core that was due before its turn begins was held until then
-abbrev pub late : ℕ → ℕ → Clock → Clock
-late due at c = record c { next = Due at; waited = c.waited + (at - due); account = with_hold (at - due) c.account }
+-- a core that was due before its turn begins was in a queue until then, or was held
+abbrev pub late : Bool → ℕ → ℕ → Clock → Clock
+late queues due at c =
+    if queues then record c { next = Due at; spent = with_queue (at - due) c.spent }
+    else record c { next = Due at; waited = c.waited + (at - due); account = with_hold (at - due) c.account }
 
 -- the clocks as this turn begins
-abbrev pub late_clocks : (ℕ → Clock) → Turn → ℕ → Clock
-late_clocks clocks t k = if k == t.core then late t.due t.at (clocks k) else clocks k
+abbrev pub late_clocks : Bool → (ℕ → Clock) → Turn → ℕ → Clock
+late_clocks queues clocks t k = if k == t.core then late queues t.due t.at (clocks k) else clocks k
 
 -- ---- an attempt begins and ends
 
@@ -60,23 +64,28 @@ late_clocks clocks t k = if k == t.core then late t.due t.at (clocks k) else clo
 abbrev pub steps_to : ℕ → Clock → ℕ
 steps_to end c = end - c.since - c.waited
 
--- from a time on it runs another attempt, or has no epoch
-abbrev pub parted : ℕ → Bool → Account → Clock → Clock
-parted at runs account c = record { next = c.next; runs = runs; since = at; waited = 0; account = account }
+-- from a time on it runs another attempt, which has spent this, or has no epoch
+abbrev pub parted : ℕ → Bool → Spent → Account → Clock → Clock
+parted at runs spent account c = record { next = c.next; runs = runs; since = at; waited = 0; spent = spent; account = account }
 
 -- it begins an epoch, or begins it again, since it was violated
 abbrev pub begun : ℕ → Bool → Clock → Clock
 begun at restarted c =
-    if c.runs then (if restarted then parted at true (with_lost (steps_to at c) c.account) c else c)
-    else parted at true (with_idle (steps_to at c) c.account) c
+    if c.runs then (if restarted then parted at true (one_more nothing_spent) (with_lost (steps_to at c) c.account) c else c)
+    else parted at true (one_more nothing_spent) (with_idle (steps_to at c) c.account) c
+
+-- its attempt spends this too
+abbrev pub paid : Spent → Clock → Clock
+paid spent c = record c { spent = both c.spent spent }
 
 -- its epoch commits, or faults as the homefree one
 abbrev pub ended : ℕ → Clock → Clock
-ended end c = parted end false (if c.runs then with_useful (steps_to end c) c.account else with_idle (steps_to end c) c.account) c
+ended end c =
+    parted end false nothing_spent (if c.runs then with_useful (steps_to end c - total c.spent) c.spent c.account else with_idle (steps_to end c) c.account) c
 
 -- what still runs is dropped
 abbrev pub dropped : ℕ → Clock → Clock
-dropped end c = parted end false (if c.runs then with_dropped (steps_to end c) c.account else with_idle (steps_to end c) c.account) c
+dropped end c = parted end false nothing_spent (if c.runs then with_dropped (steps_to end c) c.account else with_idle (steps_to end c) c.account) c
 
 -- ---- a turn
 
@@ -87,13 +96,17 @@ waits_for NoWay at c = record c { next = Waits at NoWay }
 waits_for OrbFull at c = record c { next = Waits at OrbFull }
 waits_for OrbBusy at c = record c { next = Waits at OrbBusy }
 
--- its turn at this time was answered so, with or without a restart, and what it goes on with executes so many instructions
-abbrev pub answered : ℕ → Bool → ℕ → Answer → Clock → Clock
-answered at restarted executed (Go hart) c = record (begun at restarted c) { next = Due (at + 1 + executed) }
-answered at restarted executed (Again cause) c = waits_for cause at c
-answered at restarted executed Left c = record (ended (at + 1) c) { next = Due (at + 1) }
-answered at restarted executed (Over end) c = record (ended (at + 1) c) { next = Gone }
-answered at restarted executed (Stopped cause) c = c
+-- its epoch is left by a turn at this time, which spends this and takes a step
+abbrev pub left : ℕ → Spent → Clock → Clock
+left at spent c = ended (at + 1 + total spent) (paid (one_more spent) c)
+
+-- its turn at this time, which spends this, was answered so, with or without a restart, and what it goes on with executes so many instructions
+abbrev pub answered : ℕ → Bool → ℕ → Spent → Answer → Clock → Clock
+answered at restarted executed spent (Go hart) c = record (paid spent (begun at restarted c)) { next = Due (at + 1 + total spent + executed) }
+answered at restarted executed spent (Again cause) c = waits_for cause at c
+answered at restarted executed spent Left c = record (left at spent c) { next = Due (at + 1 + total spent) }
+answered at restarted executed spent (Over end) c = record (left at spent c) { next = Gone }
+answered at restarted executed spent (Stopped cause) c = c
 
 abbrev pub woken_from : Next → ℕ → Clock → Clock
 woken_from (Due due) at c = c

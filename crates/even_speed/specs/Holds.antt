@@ -19,6 +19,10 @@ pub record HoldsNone (h : HoldsView) : Type 0 where
   pub places : h.places ≡ []
   pub stores : h.stores ≡ []
 
+-- does no load wait?
+abbrev pub holds_none : HoldsView → Bool
+holds_none h = (length h.places == 0) && (length h.stores == 0)
+
 -- some load waits for stores
 abbrev pub has_stores : HoldsView → Bool
 has_stores h = not (length h.stores == 0)

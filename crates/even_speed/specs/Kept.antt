@@ -1,5 +1,5 @@
 -- What is kept of the clocks along a run.
-use Rattle.std.specs.Prelude.{◌≡◌, ℕ, ◌+◌, ◌*◌, ◌<◌, ◌≤◌, Bool, false, List, length, Option, Some, None, Result, Ok, Err}
+use Rattle.std.specs.Prelude.{◌≡◌, ℕ, ◌+◌, ◌*◌, ◌^◌, ◌<◌, ◌≤◌, ◌==◌, ◌&&◌, ◌||◌, nat_le, nat_lt, not, Bool, true, false, List, length, Option, Some, None, Result, Ok, Err, if◌then◌else◌}
 use Rattle.std.specs.List.{slice_index_or}
 use Rattle.homefree.specs.declared.answer.Answer.{Answer}
 use Rattle.homefree.specs.declared.answer.Answer.TheVariants.{Go, Again, Left, Over, Stopped}
@@ -9,24 +9,35 @@ use Rattle.even_speed.specs.declared.clock.Clock.{Clock}
 use Rattle.even_speed.specs.declared.clock.Next.{Next}
 use Rattle.even_speed.specs.declared.clock.Next.TheVariants.{Due, Waits, Gone}
 use Rattle.even_speed.specs.declared.clocks.Turn.{Turn}
-use Rattle.even_speed.specs.Account.{WastesNone, steps_of}
+use Rattle.even_speed.specs.declared.pricing.Free.{Free}
+use Rattle.even_speed.specs.declared.pricing.Price.{Price}
+use Rattle.even_speed.specs.Account.{WastesNone, steps_of, total}
 use Rattle.even_speed.specs.Clocks.{IsFirst, clock_at, due_of}
+use Rattle.even_speed.specs.Pricing.{IsLow, later}
 
 -- the time up to which all its steps are told
 abbrev pub told : Clock → ℕ
 told c = c.since + c.waited
 
--- nothing is told of the time after it is due, or since when it waits, which is this time or sooner
-abbrev pub IsSoundNext : ℕ → ℕ → Next → Type 0
-IsSoundNext now told (Due at) = told ≤ at
-IsSoundNext now told (Waits since cause) = (since ≤ now) × (told ≤ since)
-IsSoundNext now told Gone = Unit {0}
+-- and what its attempt has spent behind that
+abbrev pub used : Clock → ℕ
+used c = told c + total c.spent
 
--- at the time of the last turn
-pub record IsSound (now : ℕ) (c : Clock) : Type 0 where
+-- nothing is used of the time after it is due, or since when it waits, which is this time or sooner
+abbrev pub IsSoundNext : ℕ → ℕ → Next → Type 0
+IsSoundNext now used (Due at) = used ≤ at
+IsSoundNext now used (Waits since cause) = (since ≤ now) × (used ≤ since)
+IsSoundNext now used Gone = Unit {0}
+
+-- at the time of the last turn, where no commit goes on for longer than that
+pub record IsSound (now last : ℕ) (c : Clock) : Type 0 where
   pub whole : steps_of c.account ≡ told c
-  pub so_far : told c ≤ now + 1
-  pub next : IsSoundNext now (told c) c.next
+  pub so_far : told c ≤ last + 1
+  pub next : IsSoundNext now (used c) c.next
+
+-- up to then the last turn or commit goes on
+abbrev pub last_in : Free → ℕ
+last_in free = later free.order free.began
 
 -- it may be woken at this time
 abbrev pub IsWaitBefore : ℕ → Next → Type 0
@@ -36,7 +47,7 @@ IsWaitBefore at Gone = Unit {0}
 
 pub record MayWake (at : ℕ) (c : Clock) : Type 0 where
   pub whole : steps_of c.account ≡ told c
-  pub so_far : told c ≤ at + 1
+  pub few : told c < 2 ^ 62
   pub before : IsWaitBefore at c.next
 
 -- where it is due, it is due at this time or sooner
@@ -45,22 +56,41 @@ IsDueBy bound (Due at) = at ≤ bound
 IsDueBy bound (Waits since cause) = since ≤ bound
 IsDueBy bound Gone = Unit {0}
 
+-- the most steps that a turn takes
+abbrev pub most_steps : ℕ
+most_steps = 70000003
+
 -- after so many turns the clocks of so many cores are sound at the time of the last one, and due by the steps that turns take at the most
-pub record AreSound (taken cores now : ℕ) (clocks : List Clock) : Type 0 where
+pub record AreSound (taken cores : ℕ) (free : Free) (clocks : List Clock) : Type 0 where
   pub count : length clocks ≡ cores
   pub few : cores ≤ 16
-  pub each : (k : ℕ) → k < cores → IsSound now (clock_at clocks k)
-  pub due : (k : ℕ) → k < cores → IsDueBy (taken * 1000003) (clock_at clocks k).next
-  pub soon : now ≤ taken * 1000003
+  pub each : (k : ℕ) → k < cores → IsSound free.began (last_in free) (clock_at clocks k)
+  pub due : (k : ℕ) → k < cores → IsDueBy (taken * most_steps) (clock_at clocks k).next
+  pub soon : free.began ≤ taken * most_steps
+  pub bus : free.bus ≤ taken * most_steps
+  pub order : free.order ≤ taken * most_steps
 
 -- is the core held, by this list?
 abbrev pub is_held_in : List Bool → ℕ → Bool
 is_held_in held k = slice_index_or held k false
 
--- none is due, or this one is the first
-abbrev pub IsNext : ℕ → (ℕ → Option ℕ) → ℕ → Option Turn → Type 0
-IsNext now dues n (Some t) = IsFirst now dues n t
-IsNext now dues n None = (k : ℕ) → k < n → dues k ≡ None
+-- none is due, or this one is the first, and costs no more than a turn can
+abbrev pub IsNext : Free → (ℕ → Price) → (ℕ → Option ℕ) → ℕ → Option Turn → Type 0
+IsNext free prices dues n (Some t) = IsFirst free prices dues n t × IsLow t.price
+IsNext free prices dues n None = (k : ℕ) → k < n → dues k ≡ None
+
+-- it begins before that time, or then and was due no later than at this one
+abbrev pub is_no_later : Turn → ℕ → ℕ → Bool
+is_no_later t at due = nat_lt t.at at || ((t.at == at) && nat_le t.due due)
+
+-- the one found so far, or this one, where that isn't later
+abbrev pub sooner : Option Turn → Turn → Turn
+sooner (Some old) t = if is_no_later old t.at t.due then old else t
+sooner None t = t
+
+abbrev pub may_begin_sooner : Option Turn → Free → ℕ → Bool
+may_begin_sooner (Some old) free due = not (is_no_later old (later free.began due) due)
+may_begin_sooner None free due = true
 
 -- of so many cores, the turn of one that is due as it begins
 pub record IsTurnOf (clocks : ℕ → Clock) (n : ℕ) (t : Turn) : Type 0 where
@@ -86,7 +116,8 @@ NeverWaitsAt now (Due at) = now ≤ at
 NeverWaitsAt now (Waits since cause) = ⊥
 NeverWaitsAt now Gone = Unit {0}
 
--- the clock of the one core that there is, at the time of the last turn
-pub record IsAloneClock (now : ℕ) (c : Clock) : Type 0 where
+-- the clock of the one core that there is, at the time of the last turn, where it is held by none or may be
+pub record IsAloneClock (IsUnheld : Type 0) (now : ℕ) (c : Clock) : Type 0 where
   pub account : WastesNone c.account
+  pub held : IsUnheld → c.account.held ≡ 0
   pub next : NeverWaitsAt now c.next

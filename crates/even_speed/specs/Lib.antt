@@ -1,6 +1,7 @@
--- Definitions to believe: where steps go, what a core's clock does, when a core is held, the run of turns, how many steps the loop takes in
--- order, and that the run is fixed.
+-- Definitions to believe: where steps go, what a turn costs and when it begins, what a core's clock does, when a core is held, the run of turns, how
+-- many steps the loop takes in order, and that the run is fixed.
 pub mod Account
+pub mod Pricing
 pub mod Clocks
 pub mod Held
 pub mod Even

@@ -17,8 +17,9 @@ use Rattle.even_speed.specs.declared.clock.Clock.{Clock}
 use Rattle.even_speed.specs.declared.clock.Next.{Next}
 use Rattle.even_speed.specs.declared.clock.Next.TheVariants.{Due, Waits, Gone}
 use Rattle.even_speed.specs.Even.{Pace, restarts}
-use Rattle.even_speed.specs.InOrder.{epoch_count, steps_in_order}
-use Rattle.even_speed.specs.Kept.{told}
+use Rattle.even_speed.specs.Account.{total}
+use Rattle.even_speed.specs.InOrder.{epoch_count, instructions_in_order}
+use Rattle.even_speed.specs.Kept.{told, used}
 
 -- ---- a turn
 
@@ -135,22 +136,33 @@ IsNextAt n (Due at) = at ≡ n
 IsNextAt n (Waits since cause) = since ≡ n
 IsNextAt n Gone = ⊥
 
--- what a running core's attempt has taken: a step to begin, and one for each instruction up to its next event
-abbrev pub IsOnTime : LoadedImage → Option CoreState → Option HartState → Clock → Type 0
-IsOnTime image None held c = c.runs ≡ false
-IsOnTime image (Some core) held c = (c.runs ≡ true)
-    × (core.hurt ≡ false → (held ≡ Some core.hart) × IsNextAt (told c + 1 + (next_event image core.hart).now.done) c.next)
+-- what a running core's attempt has taken: what it spent beside instructions, and one for each of these up to its next event; where turns cost
+-- nothing, it has spent the step to begin
+abbrev pub IsOnTime : Bool → LoadedImage → Option CoreState → Option HartState → Clock → Type 0
+IsOnTime costless image None held c = c.runs ≡ false
+IsOnTime costless image (Some core) held c = (c.runs ≡ true)
+    × (core.hurt ≡ false → (held ≡ Some core.hart) × IsNextAt (used c + (next_event image core.hart).now.done) c.next)
+    × (costless ≡ true → total c.spent ≡ 1)
 
--- the useful steps of the cores 0 to n - 1
-unfoldable pub useful_of : (ℕ → Clock) → ℕ → ℕ
-useful_of clocks zero = 0
-useful_of clocks (suc n) = useful_of clocks n + (clocks n).account.useful
+-- the sum over the clocks of the cores 0 to n - 1
+unfoldable pub sum_over : (Clock → ℕ) → (ℕ → Clock) → ℕ → ℕ
+sum_over f clocks zero = 0
+sum_over f clocks (suc n) = sum_over f clocks n + f (clocks n)
 
-pub record AreOnTime (image : LoadedImage) (cores : ℕ) (s : FlatState) (p : Pace) : Type 0 where
+-- their busy steps, and what their attempts spent that committed
+abbrev pub busy_of : (ℕ → Clock) → ℕ → ℕ
+busy_of = sum_over (λ c. c.account.busy)
+
+abbrev pub spent_of : (ℕ → Clock) → ℕ → ℕ
+spent_of = sum_over (λ c. total c.account.spent)
+
+-- where turns cost nothing, or may cost something
+pub record AreOnTime (costless : Bool) (image : LoadedImage) (cores : ℕ) (s : FlatState) (p : Pace) : Type 0 where
   -- the loop isn't over, or nothing has been done
   pub going : (s.end ≡ None) ⊎ (s.homefree ≡ 0)
-  pub each : (k : ℕ) → k < cores → IsOnTime image (s.cores k) (p.held k) (p.clocks k)
-  pub useful : useful_of p.clocks cores ≡ steps_in_order image s.homefree
+  pub each : (k : ℕ) → k < cores → IsOnTime costless image (s.cores k) (p.held k) (p.clocks k)
+  pub busy : busy_of p.clocks cores ≡ instructions_in_order image s.homefree
+  pub spent : costless ≡ true → spent_of p.clocks cores ≡ s.homefree + s.homefree
 
 -- where it has no epoch it is due at once
 abbrev pub IsDueAt : ℕ → Next → Type 0

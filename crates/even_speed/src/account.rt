@@ -4,11 +4,53 @@ ghost use Rattle.even_speed.specs.Account as spec;
 
 use homefree::Cause;
 
+/// What an attempt's steps went to beside its instructions.
+#[derive(Clone, Copy, Debug, PartialEq, Eq)]
+pub struct Spent {
+    /// To begin or commit its epoch: a step each, and what that costs.
+    pub handling: u64,
+    /// To what its accesses cost.
+    pub memory: u64,
+    /// Waiting for the bus, or for its turn among those that commit or publish.
+    pub queue: u64,
+}
+
+/// None.
+pub(crate) const NOTHING_SPENT: Spent = Spent {
+    handling: 0,
+    memory: 0,
+    queue: 0,
+};
+
+impl Spent {
+    /// All of them.
+    pub fn total(&self) -> u64
+        requires { spec.total self.now < 2 ^ 63 }
+        ensures { result ≡ spec.total self.now }
+    {
+        self.handling + self.memory + self.queue
+    }
+
+    /// Both.
+    pub(crate) fn and(&self, other: &Spent) -> Spent
+        requires { spec.total self.now + spec.total other.now < 2 ^ 63 }
+        ensures { result ≡ spec.both self.now other.now }
+    {
+        Spent {
+            handling: self.handling + other.handling,
+            memory: self.memory + other.memory,
+            queue: self.queue + other.queue,
+        }
+    }
+}
+
 /// Steps of cores, by where they went.
 #[derive(Clone, Copy, Debug, PartialEq, Eq)]
 pub struct Account {
-    /// Of attempts that committed, or faulted as the homefree epoch's.
-    pub useful: u64,
+    /// Of attempts that committed, or faulted as the homefree epoch's: their instructions.
+    pub busy: u64,
+    /// And what they spent beside these.
+    pub spent: Spent,
     /// Of attempts that were violated, up to their restart.
     pub lost: u64,
     /// Of attempts that were cancelled, or still ran when the loop was over.
@@ -32,7 +74,8 @@ pub(crate) fn no_steps() -> Account
     ensures { result ≡ spec.no_steps }
 {
     Account {
-        useful: 0,
+        busy: 0,
+        spent: NOTHING_SPENT,
         lost: 0,
         dropped: 0,
         idle: 0,
@@ -60,6 +103,24 @@ impl Account {
         self
     }
 
+    /// With so many instructions more of attempts that committed, and what these spent beside them.
+    pub(crate) fn with_useful(mut self, instructions: u64, spent: &Spent) -> Account
+        requires { spec.steps_of self + instructions + spec.total spent.now < 2 ^ 63 }
+        ensures { result ≡ spec.with_useful instructions spent.now self }
+    {
+        self.busy += instructions;
+        self.spent = self.spent.and(spent);
+        self
+    }
+
+    /// All steps of attempts that committed.
+    pub fn useful(&self) -> u64
+        requires { spec.steps_of self.now < 2 ^ 63 }
+        ensures { result ≡ spec.useful_in self.now }
+    {
+        self.busy + self.spent.total()
+    }
+
     /// All steps that were waited, those held aside.
     pub fn waiting(&self) -> u64
         requires { spec.steps_of self.now < 2 ^ 63 }
@@ -75,7 +136,8 @@ impl Account {
         ensures { result ≡ spec.sum_of self.now other.now }
     {
         Account {
-            useful: self.useful + other.useful,
+            busy: self.busy + other.busy,
+            spent: self.spent.and(&other.spent),
             lost: self.lost + other.lost,
             dropped: self.dropped + other.dropped,
             idle: self.idle + other.idle,

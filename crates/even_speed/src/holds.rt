@@ -49,7 +49,7 @@ impl Holds {
 
     /// Whether no load waits.
     pub(crate) fn holds_none(&self) -> bool
-        ensures { result ≡ true → spec.HoldsNone self.now }
+        ensures { result ≡ spec.holds_none self.now }
     {
         self.places.is_empty() && self.stores.is_empty()
     }

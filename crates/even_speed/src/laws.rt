@@ -2,12 +2,14 @@
 ghost use Rattle.even_speed.specs.Fixed.{RunIsFixed};
 
 use homefree::turn_is_fixed;
-use violations::EpochStore;
+use turn_costs::PricedStore;
+use turn_costs::laws::actions_are_fixed;
 
 /// From two books that have the same history, and whose stores hold the same, the run at even speed takes the same turns, makes the
 /// same entries and comes to the same, where it isn't stopped.
-pub fn run_is_fixed<S: EpochStore>()
-    ensures { RunIsFixed S.makes S.alike S.view S.waits }
+pub fn run_is_fixed<S: PricedStore>()
+    ensures { RunIsFixed S.makes S.alike S.view S.waits S.prices S.keeps }
 {
     turn_is_fixed::<S>();
+    actions_are_fixed::<S>();
 }

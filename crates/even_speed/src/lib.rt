@@ -2,17 +2,22 @@
 #![tactic(auto)]
 
 mod account;
+mod choice;
 mod clock;
 mod clocks;
 mod holds;
 mod laws;
 mod owns;
+mod pricing;
 mod run;
 mod seats;
+mod terms;
 
-pub use account::Account;
+pub use account::{Account, Spent};
 pub use clock::{Clock, Next};
 pub use clocks::Turn;
 pub use holds::Holds;
 pub use laws::run_is_fixed;
+pub use pricing::{Free, Price};
 pub use run::{Ran, drive_evenly};
+pub use terms::Terms;

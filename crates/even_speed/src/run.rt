@@ -21,15 +21,19 @@ ghost use Rattle.even_speed.specs.Seats.{epoch_kept, none_seated, seat_at, seats
 ghost use Rattle.even_speed.specs.Timed.{Leads};
 
 use crate::account::Account;
-use crate::clocks::{account_of, be_late, clock_of, first_clocks, next_turn, set_clock, wake_all};
+use crate::choice::next_turn;
+use crate::clocks::{account_of, be_late, clock_of, first_clocks, set_clock, wake_all};
 use crate::holds::Holds;
 use crate::owns::{Own, bytes_of, first_owns, keep_all};
+use crate::pricing::ALL_FREE;
 use crate::seats::{Seat, note_all, seat_of};
+use crate::terms::Terms;
 use homefree::{Answer, Book, MOST_ROOM, TurnFault};
 use memory_bytes::ShadowBytes;
 use run_ledger::Shares;
 use rv32_exec::{Arrived, End, Image, NoMemory, Stop};
 use std::alloc::Global;
+use turn_costs::PricedStore;
 use violations::{EpochStore, MAX_CORES};
 
 /// The most turns that a run takes. Each turn that isn't answered `Again` makes an entry, of which there are at most `MOST_ROOM`, and
@@ -47,32 +51,33 @@ pub struct Ran {
     pub account: Account,
 }
 
-/// Takes turns at even speed, up to the one that ends the loop: each of the core that is due first. It writes whose turns it took
-/// into the schedule, which is empty before. A core at a load that waits isn't due until its epoch is the homefree one, or was violated.
+/// Takes turns at even speed, on these terms, up to the one that ends the loop: each of the core whose turn begins first. It writes whose
+/// turns it took into the schedule, which is empty before. A core at a load that waits isn't due until its epoch is the homefree one, or was
+/// violated.
 ///
 /// It answers what the run came to. None: the book was stopped before, or its history wasn't empty; a run from an empty history goes on up to
 /// the end of its loop, unless that fills the history or memory runs out. A fault is that of the last turn, and leaves the book of the
 /// turns before; `NoMemory` may also be that there was none for the schedule.
-pub fn drive_evenly<S: EpochStore>(
+pub fn drive_evenly<S: PricedStore>(
     alloc: Global,
     book: &mut Book<S>,
     image: &Image,
     cores: u32,
-    holds: &Holds,
+    terms: &Terms,
     schedule: &mut Vec<u32>,
     shares: &mut Shares,
 ) -> Result<Option<Ran>, TurnFault>
     requires book { (book.old.image ≡ image.now) × (book.old.cores ≡ cores) }
     requires schedule { schedule.old.items ≡ [] }
     requires shares { IsNoMore shares.old book.old.totals }
-    ensures evenly { spec.UnlessRefused result (spec.Evenly S.makes S.view S.waits (holding_of holds.now) spec.at_first (driver book.old shares.old) schedule.new.items result (driver book.new shares.new)) }
+    ensures evenly { spec.UnlessRefused result (spec.Evenly S.makes S.view S.waits S.keeps (spec.pacing_of S.prices terms.now) spec.at_first (driver book.old shares.old) schedule.new.items result (driver book.new shares.new)) }
     ensures driven { spec.UnlessRefused result (Driven S.makes S.view S.waits (λ _. None) (driver book.old shares.old) schedule.new.items (spec.end_in result) (driver book.new shares.new)) }
     ensures same { IsOfSameLoop book.old book.new }
     ensures shares { IsNoMore shares.new book.new.totals }
     ensures end { spec.IfRan result (λ ran. IsInOrder book.new.image ran.end (S.view book.new.store).committed) }
     ensures whole { spec.IfRan result (spec.IsWhole book.old.cores) }
     ensures short { spec.IfRan result spec.IsShort }
-    ensures accounts { spec.IfRan result (spec.AccountsFor book.old) }
+    ensures accounts { spec.IfRan result (spec.AccountsFor (spec.pacing_of S.prices terms.now) book.old) }
     ensures ends { book.old.history ≡ [] → book.old.stopped ≡ None → result ≢ Ok None }
 {
     let Ok(mut clocks) = first_clocks(alloc, cores) else {
@@ -85,36 +90,36 @@ pub fn drive_evenly<S: EpochStore>(
     let Ok(mut owns) = first_owns(alloc, cores) else {
         return Err(TurnFault::NoMemory);
     };
-    let Ok(()) = keep_from(&mut owns, book, holds, 0) else {
+    let Ok(()) = keep_from(&mut owns, book, &terms.holds, 0) else {
         return Err(TurnFault::NoMemory);
     };
-    let mut now = 0;
+    let mut free = ALL_FREE;
     for _taken in 0..MOST_TURNS {
-        let waiting = held_cores(book, image, &seats, &owns, &held, holds, cores);
-        let Some(turn) = next_turn(&clocks, &waiting, now) else {
+        let waiting = held_cores(book, image, &seats, &owns, &held, &terms.holds, cores);
+        let Some(turn) = next_turn(book, terms, &held, &clocks, &waiting, &free) else {
             return Ok(None);
         };
         let Ok(()) = schedule.push(turn.core) else {
             return Err(TurnFault::NoMemory);
         };
-        now = turn.at;
-        be_late(&mut clocks, turn);
+        be_late(&mut clocks, terms, &turn);
         let clock = clock_of(&clocks, turn.core);
         let restarts = book.totals().restarts;
         let place = book.len();
         let answer = step(book, &mut held, turn.core, shares)?;
         note_from(&mut seats, book, place);
-        let Ok(()) = keep_from(&mut owns, book, holds, place) else {
+        let Ok(()) = keep_from(&mut owns, book, &terms.holds, place) else {
             return Err(TurnFault::NoMemory);
         };
         let restarted = book.totals().restarts != restarts;
         let executed = executed_by(image, &held, turn.core, &answer);
-        let clock = clock.answered(turn.at, restarted, executed, &answer);
+        let clock = clock.answered(turn.at, restarted, executed, &turn.price.spent, &answer);
         set_clock(&mut clocks, turn.core, clock);
+        let steps = free.over(turn.at, &turn.price);
+        free = free.after(turn.at, &turn.price, &answer);
         match answer {
             Answer::Over(end) => {
                 book.look();
-                let steps = turn.at + 1;
                 let account = account_of(&clocks, steps);
                 return Ok(Some(Ran {
                     end,

@@ -8,35 +8,42 @@ use Rattle.violations.specs.View.{StoreView, Waits}
 use Rattle.violations.specs.Calls.{Call}
 use Rattle.violations.specs.Rule.{IsCoreCount}
 use Rattle.all_schedules.specs.Made.{loop_on}
+use Rattle.turn_costs.specs.Order.{kind_of}
+use Rattle.turn_costs.specs.Prices.{Prices}
+use Rattle.even_speed.specs.Even.{pacing_of}
+use Rattle.gain.specs.declared.lines.Waiting.{Waiting}
+use Rattle.gain.specs.declared.measure.Base.{Base}
 use Rattle.gain.specs.declared.measure.Measured.{Measured}
-use Rattle.gain.specs.Measured.{IsMeasured}
+use Rattle.gain.specs.Measured.{IsMeasured, IsOrderOf}
 use Rattle.gain.specs.Text.{line_text}
-use Rattle.gain.specs.Lines.{AddEach, AddHeld, AddLines, Waiting, count_if, more_counts}
+use Rattle.gain.specs.Lines.{AddEach, AddHeld, AddLines, count_if, more_counts}
 use Rattle.gain.specs.Limits.{AddLimit, AddLimits}
 
-module _ {S : Type 0} (starts : LoadedImage → ℕ → S → Type 0) (makes : S → Call → S → Type 0) (view : S → StoreView) (waits : S → Waits) (w : Waiting) (image : LoadedImage) (room : ℕ) (store : List ℕ) (first : Option Measured) (counts start : List ℕ) where
+module _ {S : Type 0} (starts : LoadedImage → ℕ → S → Type 0) (makes : S → Call → S → Type 0) (view : S → StoreView) (waits : S → Waits) (prices : S → Prices) (keeps : S → Type 0) (w : Waiting) (image : LoadedImage) (room : ℕ) (store : List ℕ) (base : Base) (counts start : List ℕ) where
   pub adds_more : (i : ℕ) (text mid text' : List ℕ) (told : Option Measured) → i < length counts
-      → ((new : List ℕ) → AddEach starts makes view waits w image room store first (drop i counts) text new → AddEach starts makes view waits w image room store first counts start new)
-      → IsMeasured starts makes view waits w.holding (loop_on image (get_or counts i 0) room) told → mid ≡ text ++ line_text false w.told store (get_or counts i 0) first told
-      → AddHeld starts makes view waits w.held image room store first (get_or counts i 0) mid text'
-      → (new : List ℕ) → AddEach starts makes view waits w image room store first (drop (i + 1) counts) text' new → AddEach starts makes view waits w image room store first counts start new
+      → ((new : List ℕ) → AddEach starts makes view waits prices keeps w image room store base (drop i counts) text new → AddEach starts makes view waits prices keeps w image room store base counts start new)
+      → IsMeasured starts makes view waits keeps (pacing_of prices w.terms) (loop_on image (get_or counts i 0) room) told → mid ≡ text ++ line_text false w.told store (get_or counts i 0) base told
+      → AddHeld starts makes view waits prices keeps w.held image room store base (get_or counts i 0) mid text'
+      → (new : List ℕ) → AddEach starts makes view waits prices keeps w image room store base (drop (i + 1) counts) text' new → AddEach starts makes view waits prices keeps w image room store base counts start new
   adds_more i text mid text' told there adds measured longer held new more =
-      adds new (subst (λ ks. AddEach starts makes view waits w image room store first ks text new) (sym (drop_more counts i 0 there))
-      (told, measured, text', subst (λ t. AddHeld starts makes view waits w.held image room store first (get_or counts i 0) t text') longer held, more))
+      adds new (subst (λ ks. AddEach starts makes view waits prices keeps w image room store base ks text new) (sym (drop_more counts i 0 there))
+      (told, measured, text', subst (λ t. AddHeld starts makes view waits prices keeps w.held image room store base (get_or counts i 0) t text') longer held, more))
 
 -- the line of one core, and those of more
-pub lines_of : {S T E : Type 0} (starts : LoadedImage → ℕ → S → Type 0) (makes : S → Call → S → Type 0) (view : S → StoreView) (waits : S → Waits) (w : Waiting) (image : LoadedImage) (room cores : ℕ) (store : List ℕ) (first : Option Measured)
-    (counts old mid after new : List ℕ) (result : Result T E) → counts ≡ more_counts cores → mid ≡ old ++ line_text false w.told store 1 first first → IsMeasured starts makes view waits w.holding (loop_on image 1 room) first
-    → AddHeld starts makes view waits w.held image room store first 1 mid after
-    → OnOk result (AddEach starts makes view waits w image room store first counts after new) → OnOk result (AddLines starts makes view waits w image room store cores old new)
-lines_of starts makes view waits w image room cores store first counts old mid after new (Ok done) are longer measured held each = (
-  first,
+pub lines_of : {S T E : Type 0} (starts : LoadedImage → ℕ → S → Type 0) (makes : S → Call → S → Type 0) (view : S → StoreView) (waits : S → Waits) (prices : S → Prices) (keeps : S → Type 0) (w : Waiting) (image : LoadedImage) (room cores : ℕ) (store : List ℕ) (base : Base)
+    (counts old mid after new : List ℕ) (result : Result T E) → counts ≡ more_counts cores → mid ≡ old ++ line_text false w.told store 1 base base.first
+    → IsMeasured starts makes view waits keeps (pacing_of prices w.terms) (loop_on image 1 room) base.first → IsOrderOf starts (kind_of makes view prices) image w.terms.costs base.order
+    → AddHeld starts makes view waits prices keeps w.held image room store base 1 mid after
+    → OnOk result (AddEach starts makes view waits prices keeps w image room store base counts after new) → OnOk result (AddLines starts makes view waits prices keeps w image room store cores old new)
+lines_of starts makes view waits prices keeps w image room cores store base counts old mid after new (Ok done) are longer measured order held each = (
+  base,
   measured,
+  order,
   after,
-  subst (λ t. AddHeld starts makes view waits w.held image room store first 1 t after) longer held,
-  subst (λ ks. AddEach starts makes view waits w image room store first ks after new) are each,
+  subst (λ t. AddHeld starts makes view waits prices keeps w.held image room store base 1 t after) longer held,
+  subst (λ ks. AddEach starts makes view waits prices keeps w image room store base ks after new) are each,
 )
-lines_of starts makes view waits w image room cores store first counts old mid after new (Err fault) are longer measured held each = each
+lines_of starts makes view waits prices keeps w image room cores store base counts old mid after new (Err fault) are longer measured order held each = each
 
 -- each number of cores passes, where these and all fewer do
 passes_if : (P : ℕ → Type 0) (count : ℕ) (b : Bool) → (b ≡ true → P count) → All P (count_if b count)

@@ -1,18 +1,23 @@
 -- What the words of a command line ask for: `PROGRAM CORES` or `PROGRAM CORES STORE ..`, behind that with `--held` lines of held runs, with `--wait
--- PC ..` which loads wait, and with `--limits` at the end the limits.
+-- PC ..` which loads wait, with `--limits` the limits, and
+-- with `--costs KEY=N,..` and `--hold N` what turns cost.
 -- Source: this project.
 use Rattle.std.specs.Prelude.{ℕ, ◌-◌, Bool, false, List, [], ◌∷◌, length, take, drop, Option, Some, None, option_map, codes, if◌then◌else◌}
 use Rattle.std.specs.Str.{bytes_eq}
 use Rattle.trace_commands.specs.Stores.{StoresAsked, stores_asked_in}
+use Rattle.turn_costs.specs.declared.costs.Costs.{Costs}
 use Rattle.all_schedules.specs.Addresses.{wait_place, waits_in}
+use Rattle.all_schedules.specs.CostWords.{CostsBehind, costs_behind}
 
--- so many cores, stores by the words that name them, whether held runs are printed too, the addresses of the loads that wait, and whether limits are
+-- so many cores, stores by the words that name them, whether held runs are printed too, the addresses of the loads that wait, whether limits are, and
+-- what turns cost
 pub record GainAsked : Type 0 where
   pub cores : ℕ
   pub stores : List (List ℕ)
   pub held : Bool
   pub addresses : List ℕ
   pub limits : Bool
+  pub costs : Option Costs
 
 -- ---- the last word
 
@@ -41,7 +46,7 @@ without_held words = without_last (codes "--held") words
 -- ---- all words
 
 abbrev pub asked_with : Bool → Bool → List ℕ → StoresAsked → GainAsked
-asked_with limits held addresses asked = record { cores = asked.cores; stores = asked.stores; held = held; addresses = addresses; limits = limits }
+asked_with limits held addresses asked = record { cores = asked.cores; stores = asked.stores; held = held; addresses = addresses; limits = limits; costs = None }
 
 abbrev pub asked_where : Bool → Bool → Option (List ℕ) → Option StoresAsked → Option GainAsked
 asked_where limits held (Some addresses) stores = option_map (asked_with limits held addresses) stores
@@ -54,6 +59,17 @@ asked_of limits before behind = asked_where limits (asks_held before) (waits_in 
 unfoldable pub asked_before_limits : Bool → List (List ℕ) → Option GainAsked
 asked_before_limits limits words = asked_of limits (take (wait_place words) words) (drop (wait_place words) words)
 
+abbrev pub asked_before_costs : List (List ℕ) → Option GainAsked
+asked_before_costs words = asked_before_limits (asks_limits words) (without_limits words)
+
+-- what turns cost stands behind all others
+abbrev pub at_costs : Option Costs → GainAsked → GainAsked
+at_costs costs asked = record asked { costs = costs }
+
+abbrev pub asked_behind : Option CostsBehind → Option GainAsked
+asked_behind (Some behind) = option_map (at_costs behind.costs) (asked_before_costs behind.words)
+asked_behind None = None
+
 -- any other words ask for nothing
 unfoldable pub gain_asked_in : List (List ℕ) → Option GainAsked
-gain_asked_in words = asked_before_limits (asks_limits words) (without_limits words)
+gain_asked_in words = asked_behind (costs_behind words)

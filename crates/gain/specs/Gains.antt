@@ -16,46 +16,67 @@ use Rattle.trace_commands.specs.Program.{Stream}
 use Rattle.trace_commands.specs.declared.store.Store.{Store}
 use Rattle.trace_commands.specs.declared.store.Store.TheVariants.{Caches, Plain}
 use Rattle.trace_commands.specs.Stores.{store_named}
+use Rattle.turn_costs.specs.declared.costs.Costs.{Costs}
+use Rattle.turn_costs.specs.Prices.{bus_prices, no_prices}
+use Rattle.even_speed.specs.declared.terms.Terms.{Terms}
 use Rattle.even_speed.specs.Held.{Holding, loads_at}
+use Rattle.even_speed.specs.Holds.{holding_of}
+use Rattle.all_schedules.specs.Paced.{none_waits}
 use Rattle.all_schedules.specs.declared.holds.Pieces.{Pieces}
 use Rattle.all_schedules.specs.Holding.{WaitsInOrder, pieces_of}
 use Rattle.all_schedules.specs.Stores.{HasRefused, RunsOnAll, on_store}
 use Rattle.gain.specs.declared.gains.Study.{Study}
-use Rattle.gain.specs.Lines.{AddLines, Waiting}
+use Rattle.gain.specs.declared.lines.Waiting.{Waiting}
+use Rattle.gain.specs.Lines.{AddLines}
 use Rattle.gain.specs.Text.{shows_held}
 use Rattle.gain.specs.Limits.{AddLimitsIf}
 
 -- ---- of an image
 
--- where loads at these addresses wait; and no lines `held`, or those where loads wait for what earlier epochs store in these pieces of memory
-abbrev pub AreWaiting : LoadedImage → List ℕ → Bool → Pieces → Waiting → Type 0
-AreWaiting image addresses true pieces w = (h : Holding) × WaitsInOrder image pieces h × (w ≡ record { holding = loads_at addresses; told = shows_held addresses; held = Some h })
-AreWaiting image addresses false pieces w = w ≡ record { holding = loads_at addresses; told = shows_held addresses; held = None }
+-- these loads wait, and turns cost this
+pub record ArePaced (holds : Holding) (queues : Bool) (costs : Option Costs) (terms : Terms) : Type 0 where
+  pub holds_is : holding_of terms.holds ≡ holds
+  pub queues_is : terms.queues ≡ queues
+  pub costs_is : terms.costs ≡ costs
 
--- to a text, the lines of this store, where these loads wait
+-- where lines `held` are asked for, loads wait for what earlier epochs store in these pieces of memory
+abbrev pub AreHeld : LoadedImage → Bool → Pieces → Option Costs → Option Terms → Type 0
+AreHeld image true pieces costs (Some terms) = (h : Holding) × WaitsInOrder image pieces h × ArePaced h false costs terms
+AreHeld image true pieces costs None = ⊥
+AreHeld image false pieces costs terms = terms ≡ None
+
+-- in the runs of a store loads at these addresses wait
+pub record AreWaiting (image : LoadedImage) (addresses : List ℕ) (study : Study) (pieces : Pieces) (w : Waiting) : Type 0 where
+  pub terms : ArePaced (loads_at addresses) (none_waits addresses) study.costs w.terms
+  pub told : w.told ≡ shows_held addresses
+  pub held : AreHeld image study.held pieces study.costs w.held
+
+-- to a text, the lines of this store, on these terms
 abbrev pub AddWaiting : Waiting → LoadedImage → Store → ℕ → ℕ → List ℕ → List ℕ → List ℕ → Type 0
-AddWaiting w image (Caches asked) cores room word old new = AddLines cache.Starts cache.Makes caches.store_view caches.waits w image room word cores old new
-AddWaiting w image Plain cores room word old new = AddLines plain.Starts plain.Makes plain.store_view (λ _. never_waits) w image room word cores old new
+AddWaiting w image (Caches asked) cores room word old new =
+    AddLines cache.Starts cache.Makes caches.store_view caches.waits bus_prices (λ v. (k : ℕ) → cache.IsPlacedCore v.cores k) w image room word cores old new
+AddWaiting w image Plain cores room word old new =
+    AddLines plain.Starts plain.Makes plain.store_view (λ _. never_waits) (λ _. no_prices) (λ _. Unit {0}) w image room word cores old new
 
-abbrev pub AddLinesOf : Bool → List ℕ → LoadedImage → Store → ℕ → ℕ → List ℕ → List ℕ → List ℕ → Type 0
-AddLinesOf held addresses image store cores room word old new =
-    (w : Waiting) × AreWaiting image addresses held (pieces_of store) w × AddWaiting w image store cores room word old new
+abbrev pub AddLinesOf : Study → List ℕ → LoadedImage → Store → List ℕ → List ℕ → List ℕ → Type 0
+AddLinesOf study addresses image store word old new =
+    (w : Waiting) × AreWaiting image addresses study (pieces_of store) w × AddWaiting w image store study.cores study.room word old new
 
 -- so of the loop on the machine that the store asks for
-abbrev pub AddStore : Bool → List ℕ → LoadedImage → ℕ → ℕ → List ℕ → Option Store → List ℕ → List ℕ → Type 0
-AddStore held addresses image cores room word (Some store) old new = AddLinesOf held addresses (on_store store image) store cores room word old new
-AddStore held addresses image cores room word None old new = ⊥
+abbrev pub AddStore : Study → List ℕ → LoadedImage → List ℕ → Option Store → List ℕ → List ℕ → Type 0
+AddStore study addresses image word (Some store) old new = AddLinesOf study addresses (on_store store image) store word old new
+AddStore study addresses image word None old new = ⊥
 
 -- those of each store, one after another
-abbrev pub AddStores : Bool → List ℕ → LoadedImage → ℕ → ℕ → List (List ℕ) → List ℕ → List ℕ → Type 0
-AddStores held addresses image cores room [] old new = new ≡ old
-AddStores held addresses image cores room (word ∷ words) old new =
-    (mid : List ℕ) × AddStore held addresses image cores room word (store_named word) old mid × AddStores held addresses image cores room words mid new
+abbrev pub AddStores : Study → List ℕ → LoadedImage → List (List ℕ) → List ℕ → List ℕ → Type 0
+AddStores study addresses image [] old new = new ≡ old
+AddStores study addresses image (word ∷ words) old new =
+    (mid : List ℕ) × AddStore study addresses image word (store_named word) old mid × AddStores study addresses image words mid new
 
 -- the lines of all stores, and below them those of the limits, where they are asked for
 pub record IsText (image : LoadedImage) (study : Study) (addresses : List ℕ) (stores : List (List ℕ)) (text : List ℕ) : Type 0 where
   pub lines : List ℕ
-  pub runs : AddStores study.held addresses image study.cores study.room stores [] lines
+  pub runs : AddStores study addresses image stores [] lines
   pub limits : AddLimitsIf study.limits image study.cores lines text
 
 -- they were written: each store's machine can run the image on so many cores

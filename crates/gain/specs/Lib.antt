@@ -8,5 +8,3 @@ pub mod Gains
 -- What the words of a command line ask for, and what the program answers them.
 pub mod Asked
 pub mod Work
--- What the code keeps.
-pub mod KeptLines

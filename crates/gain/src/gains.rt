@@ -17,9 +17,10 @@ use std::alloc::{AllocError, Global};
 use std::convert::AsStr;
 use std::io::{Read, Write};
 use trace_commands::{CommandStop, Outcome, write_whole};
+use turn_costs::Costs;
 
 /// What is asked about a loop.
-#[derive(Clone, Copy)]
+#[derive(Drop)]
 pub struct Study {
     /// The most cores that it runs on.
     pub cores: u32,
@@ -29,30 +30,32 @@ pub struct Study {
     pub held: bool,
     /// Whether what its dependences allow is asked too.
     pub limits: bool,
+    /// What turns cost. None: nothing.
+    pub costs: Option<Costs>,
 }
 
-/// Runs the image that the reader gives at even speed on 1, 2, 4, 8 cores, as far as these are fewer than the cores, and on the cores,
-/// over each of these stores, where loads at these addresses of code wait, and writes a line for each run, and one for
-/// that in which loads wait for what earlier epochs store, where those are asked for; below them a line of the limits for each number of cores, where they are
-/// asked for. The cores are at least 1, and the room is 16 to `homefree::MOST_ROOM` entries.
+/// Runs the image that the reader gives at even speed on 1, 2, 4, 8 cores, as far as these are fewer than the cores, and on the cores, over
+/// each of these stores, where loads at these addresses of code wait and turns cost what is asked. It writes a line for each run, and one for
+/// that in which loads wait for what earlier epochs store, where those are asked for; below them a line of the limits for each number of cores,
+/// where they are asked for. The cores are at least 1, and the room is 16 to `homefree::MOST_ROOM` entries.
 ///
 /// The status is 0 where that was written; 2 where the image, a machine or the number of cores is refused; 3 where memory ran out or a
 /// write failed. With 2 and 3 one line on the error stream says which. All that is written was made before the first byte: after a
 /// failed write a prefix of it was written.
 pub fn do_gain<S: AsStr, R: Read, W: Write, E: Write>(
     alloc: Global,
-    study: Study,
+    study: &Study,
     addresses: &[u32],
     stores: &[S],
     reader: &mut R,
     writer: &mut W,
     errors: &mut E,
 ) -> u8
-    requires cores { 1 ≤ study.cores }
-    requires least { 16 ≤ study.room }
-    requires most { study.room ≤ most_room }
+    requires cores { 1 ≤ study.now.cores }
+    requires least { 16 ≤ study.now.room }
+    requires most { study.now.room ≤ most_room }
     requires stores { list_all names_store (map S.text stores.now) ≡ true }
-    ensures outcome { ForText (R.remaining reader.old) (λ text. spec.GainAnswers study addresses.now (map S.text stores.now) text
+    ensures outcome { ForText (R.remaining reader.old) (λ text. spec.GainAnswers study.now addresses.now (map S.text stores.now) text
         (record { old = W.contents writer.old; new = W.contents writer.new }) (record { old = E.contents errors.old; new = E.contents errors.new }) result) }
     ensures taken { TakesAtMost (R.remaining reader.old) (R.remaining reader.new) (longest_image_text + 1) }
 {
@@ -65,19 +68,19 @@ pub fn do_gain<S: AsStr, R: Read, W: Write, E: Write>(
 /// All but the line on the error stream.
 fn gains_of_input<S: AsStr, R: Read, W: Write>(
     alloc: Global,
-    study: Study,
+    study: &Study,
     addresses: &[u32],
     stores: &[S],
     reader: &mut R,
     writer: &mut W,
 ) -> Result<(), Outcome>
-    requires cores { 1 ≤ study.cores }
-    requires least { 16 ≤ study.room }
-    requires most { study.room ≤ most_room }
+    requires cores { 1 ≤ study.now.cores }
+    requires least { 16 ≤ study.now.room }
+    requires most { study.now.room ≤ most_room }
     requires stores { list_all names_store (map S.text stores.now) ≡ true }
     ensures outcome { ForText (R.remaining reader.old) (λ text. MatchResult result
-        (λ _. spec.IsWritten study addresses.now (map S.text stores.now) text (W.contents writer.old) (W.contents writer.new))
-        (spec.IsUnwritten study addresses.now (map S.text stores.now) text (W.contents writer.old) (W.contents writer.new))) }
+        (λ _. spec.IsWritten study.now addresses.now (map S.text stores.now) text (W.contents writer.old) (W.contents writer.new))
+        (spec.IsUnwritten study.now addresses.now (map S.text stores.now) text (W.contents writer.old) (W.contents writer.new))) }
     ensures taken { TakesAtMost (R.remaining reader.old) (R.remaining reader.new) (longest_image_text + 1) }
 {
     match read_image(alloc, reader) {
@@ -89,17 +92,17 @@ fn gains_of_input<S: AsStr, R: Read, W: Write>(
 fn gains_of_image<S: AsStr, W: Write>(
     alloc: Global,
     image: &Image,
-    study: Study,
+    study: &Study,
     addresses: &[u32],
     stores: &[S],
     writer: &mut W,
 ) -> Result<(), Outcome>
-    requires cores { 1 ≤ study.cores }
-    requires least { 16 ≤ study.room }
-    requires most { study.room ≤ most_room }
+    requires cores { 1 ≤ study.now.cores }
+    requires least { 16 ≤ study.now.room }
+    requires most { study.now.room ≤ most_room }
     requires stores { list_all names_store (map S.text stores.now) ≡ true }
-    ensures { MatchResult result (λ _. spec.IsWrittenOf image.now study addresses.now (map S.text stores.now) (W.contents writer.old) (W.contents writer.new))
-        (spec.IsUnwrittenOf image.now study addresses.now (map S.text stores.now) (W.contents writer.old) (W.contents writer.new)) }
+    ensures { MatchResult result (λ _. spec.IsWrittenOf image.now study.now addresses.now (map S.text stores.now) (W.contents writer.old) (W.contents writer.new))
+        (spec.IsUnwrittenOf image.now study.now addresses.now (map S.text stores.now) (W.contents writer.old) (W.contents writer.new)) }
 {
     check_stores(alloc, image, study.cores, stores)?;
     let Ok(text) = text_of(alloc, image, study, addresses, stores) else {
@@ -116,27 +119,18 @@ fn gains_of_image<S: AsStr, W: Write>(
 fn text_of<S: AsStr>(
     alloc: Global,
     image: &Image,
-    study: Study,
+    study: &Study,
     addresses: &[u32],
     stores: &[S],
 ) -> Result<Vec<u8>, AllocError>
-    requires cores { 1 ≤ study.cores }
-    requires least { 16 ≤ study.room }
-    requires most { study.room ≤ most_room }
-    requires stores { RunsOnAll image.now study.cores (map S.text stores.now) }
-    ensures { IfOk result (λ text. spec.IsText image.now study addresses.now (map S.text stores.now) text.items) }
+    requires cores { 1 ≤ study.now.cores }
+    requires least { 16 ≤ study.now.room }
+    requires most { study.now.room ≤ most_room }
+    requires stores { RunsOnAll image.now study.now.cores (map S.text stores.now) }
+    ensures { IfOk result (λ text. spec.IsText image.now study.now addresses.now (map S.text stores.now) text.items) }
 {
     let mut text = Vec::new(alloc);
-    push_stores(
-        alloc,
-        &mut text,
-        image,
-        study.cores,
-        study.room,
-        study.held,
-        addresses,
-        stores,
-    )?;
+    push_stores(alloc, &mut text, image, study, addresses, stores)?;
     if study.limits {
         push_limits(alloc, &mut text, image, study.cores)?;
     }

@@ -3,32 +3,31 @@ ghost use Rattle.std.specs.Prelude.{◌≡◌, ◌≤◌, ◌++◌, All, IfOk, I
 ghost use Rattle.violations.specs.Rule.{IsCoreCount};
 ghost use Rattle.homefree.specs.Room.{most_room};
 ghost use Rattle.gain.specs.Measured.{HasFewSteps};
-ghost use Rattle.gain.specs.KeptLines.{waiting_of};
 ghost use Rattle.gain.specs.Lines as spec;
 
-use crate::measure::{Measured, measure};
+use crate::measure::{Base, measure, order_of};
 use crate::text::push_line;
-use even_speed::Holds;
+use even_speed::Terms;
 use rv32_exec::Image;
 use std::alloc::{AllocError, Global};
-use violations::EpochStore;
+use turn_costs::PricedStore;
 
-/// Which loads wait.
+/// On which terms the runs go.
 #[derive(Drop)]
 pub struct Waiting {
-    /// In the runs of a store.
-    pub holds: Holds,
-    /// Whether it is told how long these are held.
+    /// Those of a store.
+    pub terms: Terms,
+    /// Whether it is told how long loads are held.
     pub told: bool,
-    /// In the runs of the lines `held`, where there are such.
-    pub held: Option<Holds>,
+    /// Those of the lines `held`, where there are such.
+    pub held: Option<Terms>,
 }
 
-/// Adds a line for each of 1, 2, 4 and 8 cores that are fewer than these, and one for these, where these loads wait; and a line `held` below
+/// Adds a line for each of 1, 2, 4 and 8 cores that are fewer than these, and one for these, on these terms; and a line `held` below
 /// each, where there are such. The cores are at least 1, and the room is 16 to `homefree::MOST_ROOM` entries.
 ///
 /// `AllocError`: memory ran out.
-pub fn push_lines<S: EpochStore>(
+pub fn push_lines<S: PricedStore>(
     alloc: Global,
     text: &mut Vec<u8>,
     store: &[u8],
@@ -40,11 +39,13 @@ pub fn push_lines<S: EpochStore>(
     requires cores { IsCoreCount image.now cores }
     requires least { 16 ≤ room }
     requires most { room ≤ most_room }
-    ensures { OnOk result (spec.AddLines S.starts S.makes S.view S.waits (waiting_of waiting.now) image.now room store.now cores text.old.items text.new.items) }
+    ensures { OnOk result (spec.AddLines S.starts S.makes S.view S.waits S.prices S.keeps waiting.now image.now room store.now cores text.old.items text.new.items) }
 {
-    let first = measure::<S>(alloc, image, 1, room, &waiting.holds)?;
-    push_line(text, false, waiting.told, store, 1, &first, &first)?;
-    push_held::<S>(alloc, text, store, image, room, waiting, &first, 1)?;
+    let first = measure::<S>(alloc, image, 1, room, &waiting.terms)?;
+    let order = order_of::<S>(alloc, image, waiting.terms.costs)?;
+    let base = Base { first, order };
+    push_line(text, false, waiting.told, store, 1, &base, &base.first)?;
+    push_held::<S>(alloc, text, store, image, room, waiting, &base, 1)?;
     let more = more_counts(alloc, cores)?;
     push_each::<S>(
         alloc,
@@ -53,57 +54,57 @@ pub fn push_lines<S: EpochStore>(
         image,
         room,
         waiting,
-        &first,
+        &base,
         more.as_slice(),
     )
 }
 
-/// Adds the lines of each of these numbers of cores, beside the run on one core.
-fn push_each<S: EpochStore>(
+/// Adds the lines of each of these numbers of cores, beside that on one core.
+fn push_each<S: PricedStore>(
     alloc: Global,
     text: &mut Vec<u8>,
     store: &[u8],
     image: &Image,
     room: u32,
     waiting: &Waiting,
-    first: &Option<Measured>,
+    base: &Base,
     counts: &[u32],
 ) -> Result<(), AllocError>
     requires counts { All (λ k. IsCoreCount image.now k) counts.now }
     requires least { 16 ≤ room }
     requires most { room ≤ most_room }
-    requires first { IfSome first.now HasFewSteps }
-    ensures { OnOk result (spec.AddEach S.starts S.makes S.view S.waits (waiting_of waiting.now) image.now room store.now first.now counts.now text.old.items text.new.items) }
+    requires first { IfSome base.now.first HasFewSteps }
+    ensures { OnOk result (spec.AddEach S.starts S.makes S.view S.waits S.prices S.keeps waiting.now image.now room store.now base.now counts.now text.old.items text.new.items) }
 {
     for cores in counts {
-        let measured = measure::<S>(alloc, image, *cores, room, &waiting.holds)?;
-        push_line(text, false, waiting.told, store, *cores, first, &measured)?;
-        push_held::<S>(alloc, text, store, image, room, waiting, first, *cores)?;
+        let measured = measure::<S>(alloc, image, *cores, room, &waiting.terms)?;
+        push_line(text, false, waiting.told, store, *cores, base, &measured)?;
+        push_held::<S>(alloc, text, store, image, room, waiting, base, *cores)?;
     }
     Ok(())
 }
 
 /// Adds the line `held` of so many cores, where there are such.
-fn push_held<S: EpochStore>(
+fn push_held<S: PricedStore>(
     alloc: Global,
     text: &mut Vec<u8>,
     store: &[u8],
     image: &Image,
     room: u32,
     waiting: &Waiting,
-    first: &Option<Measured>,
+    base: &Base,
     cores: u32,
 ) -> Result<(), AllocError>
     requires cores { IsCoreCount image.now cores }
     requires least { 16 ≤ room }
     requires most { room ≤ most_room }
-    requires first { IfSome first.now HasFewSteps }
-    ensures { OnOk result (spec.AddHeld S.starts S.makes S.view S.waits (waiting_of waiting.now).held image.now room store.now first.now cores text.old.items text.new.items) }
+    requires first { IfSome base.now.first HasFewSteps }
+    ensures { OnOk result (spec.AddHeld S.starts S.makes S.view S.waits S.prices S.keeps waiting.now.held image.now room store.now base.now cores text.old.items text.new.items) }
 {
     match &waiting.held {
-        Some(holds) => {
-            let measured = measure::<S>(alloc, image, cores, room, holds)?;
-            push_line(text, true, true, store, cores, first, &measured)
+        Some(terms) => {
+            let measured = measure::<S>(alloc, image, cores, room, terms)?;
+            push_line(text, true, true, store, cores, base, &measured)
         }
         None => Ok(()),
     }

@@ -1,5 +1,7 @@
 //! What a loop gains on more cores: `gain CORES STORE ..` takes an image on standard input, and prints a line for each store and each number
-//! of cores 1, 2, 4, 8 below CORES, and CORES, of the run at even speed; with `--wait PC ..` behind that, of one in which the loads at these addresses of code wait; with `--limits` at the end a line of what its dependences allow, for each number of cores.
+//! of cores 1, 2, 4, 8 below CORES, and CORES, of the run at even speed; with `--wait PC ..` behind that, of one in which the loads at these
+//! addresses of code wait; with `--limits` behind that a line of what its dependences allow, for each number of cores; and with `--costs` and
+//! `--hold` behind all of them, of runs in which turns cost something.
 #![tactic(auto)]
 
 use homefree::MOST_ROOM;

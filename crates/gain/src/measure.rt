@@ -2,17 +2,18 @@
 ghost use Rattle.std.specs.Prelude.{◌≤◌, IfOk, IfSome};
 ghost use Rattle.violations.specs.Rule.{IsCoreCount};
 ghost use Rattle.homefree.specs.Room.{most_room};
-ghost use Rattle.even_speed.specs.Holds.{holding_of};
+ghost use Rattle.even_speed.specs.Even.{pacing_of};
+ghost use Rattle.turn_costs.specs.Order.{kind_of};
 ghost use Rattle.all_schedules.specs.Made.{loop_on};
 ghost use Rattle.gain.specs.Measured as spec;
 
 use crate::kinds::{Kinds, kinds_of};
 use all_schedules::{EvenRun, run_evenly};
-use even_speed::{Holds, Ran};
+use even_speed::{Ran, Terms};
 use homefree::TurnFault;
 use rv32_exec::Image;
 use std::alloc::{AllocError, Global};
-use violations::EpochStore;
+use turn_costs::{Costs, PricedStore, steps_in_order};
 
 /// What is told of a run whose loop is over.
 #[derive(Clone, Copy)]
@@ -25,24 +26,33 @@ pub struct Measured {
     pub kinds: Kinds,
 }
 
-/// Runs the loop at even speed, where these loads wait, over a fresh store, and answers what is told of the run. None: its history was full before the loop
+/// What the runs over a store are compared with.
+#[derive(Clone, Copy)]
+pub struct Base {
+    /// The run on one core. None: its history was full.
+    pub first: Option<Measured>,
+    /// How many steps the loop takes in order on one core that doesn't speculate, where turns cost something.
+    pub order: Option<u64>,
+}
+
+/// Runs the loop at even speed, on these terms, over a fresh store, and answers what is told of the run. None: its history was full before the loop
 /// was over. The cores are at least 1, and the room is 16 to `homefree::MOST_ROOM` entries.
 ///
 /// `AllocError`: memory ran out.
-pub fn measure<S: EpochStore>(
+pub fn measure<S: PricedStore>(
     alloc: Global,
     image: &Image,
     cores: u32,
     room: u32,
-    holds: &Holds,
+    terms: &Terms,
 ) -> Result<Option<Measured>, AllocError>
     requires cores { IsCoreCount image.now cores }
     requires least { 16 ≤ room }
     requires most { room ≤ most_room }
-    ensures is { IfOk result (spec.IsMeasured S.starts S.makes S.view S.waits (holding_of holds.now) (loop_on image.now cores room)) }
+    ensures is { IfOk result (spec.IsMeasured S.starts S.makes S.view S.waits S.keeps (pacing_of S.prices terms.now) (loop_on image.now cores room)) }
     ensures few { IfOk result (λ told. IfSome told spec.HasFewSteps) }
 {
-    let run: EvenRun<S> = match run_evenly(alloc, image, cores, room, holds) {
+    let run: EvenRun<S> = match run_evenly(alloc, image, cores, room, terms) {
         Ok(run) => run,
         Err(TurnFault::HistoryFull) => return Ok(None),
         Err(TurnFault::NoMemory) => return Err(AllocError),
@@ -54,4 +64,23 @@ pub fn measure<S: EpochStore>(
         restarts: run.book.totals().restarts,
         kinds,
     }))
+}
+
+/// Where turns cost something, how many steps the loop takes in order on one core that doesn't speculate, over a store of its own.
+///
+/// `AllocError`: memory ran out.
+pub fn order_of<S: PricedStore>(
+    alloc: Global,
+    image: &Image,
+    costs: Option<Costs>,
+) -> Result<Option<u64>, AllocError>
+    ensures { IfOk result (spec.IsOrderOf S.starts (kind_of S.makes S.view S.prices) image.now costs) }
+{
+    let Some(costs) = costs else {
+        return Ok(None);
+    };
+    match steps_in_order::<S>(alloc, image, &costs) {
+        Ok(steps) => Ok(Some(steps)),
+        Err(_) => Err(AllocError),
+    }
 }

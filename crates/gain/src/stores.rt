@@ -1,18 +1,17 @@
 //! The lines of all stores.
-ghost use Rattle.std.specs.Prelude.{◌≡◌, ◌≤◌, IfOk, IsSomeAnd, None, OnOk, true, false, map};
+ghost use Rattle.std.specs.Prelude.{◌≤◌, IfOk, OnOk, map};
 ghost use Rattle.violations.specs.Rule.{IsCoreCount};
 ghost use Rattle.homefree.specs.Room.{most_room};
 ghost use Rattle.trace_commands.specs.Stores.{store_named};
-ghost use Rattle.even_speed.specs.Holds.{holding_of};
-ghost use Rattle.all_schedules.specs.Holding.{WaitsInOrder, pieces_of};
+ghost use Rattle.all_schedules.specs.Holding.{pieces_of};
 ghost use Rattle.all_schedules.specs.Stores.{RunsOn, RunsOnAll};
 ghost use Rattle.gain.specs.Gains as spec;
-ghost use Rattle.gain.specs.KeptLines.{waiting_of};
 
+use crate::gains::Study;
 use crate::lines::{Waiting, push_lines};
 use crate::text::shows_held;
 use all_schedules::{holds_at, holds_in_order, pieces_of, store_on};
-use even_speed::Holds;
+use even_speed::Terms;
 use rv32_image::Image;
 use spec_bus::CachedBus;
 use std::alloc::{AllocError, Global};
@@ -27,28 +26,17 @@ pub fn push_stores<S: AsStr>(
     alloc: Global,
     text: &mut Vec<u8>,
     image: &Image,
-    cores: u32,
-    room: u32,
-    held: bool,
+    study: &Study,
     addresses: &[u32],
     words: &[S],
 ) -> Result<(), AllocError>
-    requires stores { RunsOnAll image.now cores (map S.text words.now) }
-    requires least { 16 ≤ room }
-    requires most { room ≤ most_room }
-    ensures { OnOk result (spec.AddStores held addresses.now image.now cores room (map S.text words.now) text.old.items text.new.items) }
+    requires stores { RunsOnAll image.now study.now.cores (map S.text words.now) }
+    requires least { 16 ≤ study.now.room }
+    requires most { study.now.room ≤ most_room }
+    ensures { OnOk result (spec.AddStores study.now addresses.now image.now (map S.text words.now) text.old.items text.new.items) }
 {
     for word in words {
-        push_store(
-            alloc,
-            text,
-            image,
-            cores,
-            room,
-            held,
-            addresses,
-            word.as_str(),
-        )?;
+        push_store(alloc, text, image, study, addresses, word.as_str())?;
     }
     Ok(())
 }
@@ -58,26 +46,22 @@ fn push_store(
     alloc: Global,
     text: &mut Vec<u8>,
     image: &Image,
-    cores: u32,
-    room: u32,
-    held: bool,
+    study: &Study,
     addresses: &[u32],
     word: &str,
 ) -> Result<(), AllocError>
-    requires store { RunsOn image.now cores (store_named word.now) }
-    requires least { 16 ≤ room }
-    requires most { room ≤ most_room }
-    ensures { OnOk result (spec.AddStore held addresses.now image.now cores room word.now (store_named word.now) text.old.items text.new.items) }
+    requires store { RunsOn image.now study.now.cores (store_named word.now) }
+    requires least { 16 ≤ study.now.room }
+    requires most { study.now.room ≤ most_room }
+    ensures { OnOk result (spec.AddStore study.now addresses.now image.now word.now (store_named word.now) text.old.items text.new.items) }
 {
-    let (store, image) = store_on(alloc, image, cores, word)?;
+    let (store, image) = store_on(alloc, image, study.cores, word)?;
     push_lines_of(
         alloc,
         text,
         word.as_bytes(),
         &image,
-        cores,
-        room,
-        held,
+        study,
         addresses,
         store,
     )
@@ -89,18 +73,18 @@ fn push_lines_of(
     text: &mut Vec<u8>,
     word: &[u8],
     image: &Image,
-    cores: u32,
-    room: u32,
-    held: bool,
+    study: &Study,
     addresses: &[u32],
     store: Store,
 ) -> Result<(), AllocError>
-    requires cores { IsCoreCount image.now cores }
-    requires least { 16 ≤ room }
-    requires most { room ≤ most_room }
-    ensures { OnOk result (spec.AddLinesOf held addresses.now image.now store cores room word.now text.old.items text.new.items) }
+    requires cores { IsCoreCount image.now study.now.cores }
+    requires least { 16 ≤ study.now.room }
+    requires most { study.now.room ≤ most_room }
+    ensures { OnOk result (spec.AddLinesOf study.now addresses.now image.now store word.now text.old.items text.new.items) }
 {
-    let waiting = waiting_over(alloc, image, held, addresses, store)?;
+    let waiting = waiting_over(alloc, image, study, addresses, store)?;
+    let cores = study.cores;
+    let room = study.room;
     match store {
         Store::Caches(_) => {
             push_lines::<CachedBus>(alloc, text, word, image, cores, room, &waiting)
@@ -113,33 +97,40 @@ fn push_lines_of(
 fn waiting_over(
     alloc: Global,
     image: &Image,
-    held: bool,
+    study: &Study,
     addresses: &[u32],
     store: Store,
 ) -> Result<Waiting, AllocError>
-    ensures { IfOk result (λ w. spec.AreWaiting image.now addresses.now held (pieces_of store) (waiting_of w)) }
+    ensures { IfOk result (spec.AreWaiting image.now addresses.now study.now (pieces_of store)) }
 {
-    let held = held_over(alloc, image, held, store)?;
-    let holds = holds_at(alloc, addresses)?;
+    let held = held_over(alloc, image, study, store)?;
+    let terms = Terms {
+        holds: holds_at(alloc, addresses)?,
+        queues: addresses.is_empty(),
+        costs: study.costs,
+    };
     let told = shows_held(addresses);
-    Ok(Waiting { holds, told, held })
+    Ok(Waiting { terms, told, held })
 }
 
-/// Where that is asked for, the loads that read what earlier epochs store in order.
+/// Where lines `held` are asked for, the loads wait that read what earlier epochs store in order.
 fn held_over(
     alloc: Global,
     image: &Image,
-    held: bool,
+    study: &Study,
     store: Store,
-) -> Result<Option<Holds>, AllocError>
-    ensures some { IfOk result (λ o. held ≡ true → IsSomeAnd o (λ h. WaitsInOrder image.now (pieces_of store) (holding_of h))) }
-    ensures none { IfOk result (λ o. held ≡ false → o ≡ None) }
+) -> Result<Option<Terms>, AllocError>
+    ensures { IfOk result (spec.AreHeld image.now study.now.held (pieces_of store) study.now.costs) }
 {
-    if !held {
+    if !study.held {
         return Ok(None);
     }
     match holds_in_order(alloc, image, pieces_of(store)) {
-        Ok(holds) => Ok(Some(holds)),
+        Ok(holds) => Ok(Some(Terms {
+            holds,
+            queues: false,
+            costs: study.costs,
+        })),
         Err(_) => Err(AllocError),
     }
 }

@@ -4,7 +4,7 @@ ghost use Rattle.gain.specs.Measured.{HasFewSteps};
 ghost use Rattle.gain.specs.Text as spec;
 
 use crate::kinds::Kinds;
-use crate::measure::Measured;
+use crate::measure::{Base, Measured};
 use even_speed::Account;
 use itoa::Buffer;
 use std::alloc::AllocError;
@@ -18,17 +18,17 @@ pub fn push_line(
     held: bool,
     store: &[u8],
     cores: u32,
-    first: &Option<Measured>,
+    base: &Base,
     measured: &Option<Measured>,
 ) -> Result<(), AllocError>
-    requires first { IfSome first.now HasFewSteps }
+    requires first { IfSome base.now.first HasFewSteps }
     requires measured { IfSome measured.now HasFewSteps }
-    ensures { OnOk result (text.new.items ≡ text.old.items ++ spec.line_text in_order held store.now cores first.now measured.now) }
+    ensures { OnOk result (text.new.items ≡ text.old.items ++ spec.line_text in_order held store.now cores base.now measured.now) }
 {
     push_name(text, in_order)?;
     text.extend_from_slice(store)?;
     push_number(text, b" cores ", cores as u64)?;
-    push_told(text, held, first, measured)?;
+    push_told(text, held, base, measured)?;
     text.extend_from_slice(b"\n")
 }
 
@@ -45,33 +45,29 @@ fn push_name(text: &mut Vec<u8>, in_order: bool) -> Result<(), AllocError>
 fn push_told(
     text: &mut Vec<u8>,
     held: bool,
-    first: &Option<Measured>,
+    base: &Base,
     measured: &Option<Measured>,
 ) -> Result<(), AllocError>
-    requires first { IfSome first.now HasFewSteps }
+    requires first { IfSome base.now.first HasFewSteps }
     requires measured { IfSome measured.now HasFewSteps }
-    ensures { OnOk result (text.new.items ≡ text.old.items ++ spec.told_text held first.now measured.now) }
+    ensures { OnOk result (text.new.items ≡ text.old.items ++ spec.told_text held base.now measured.now) }
 {
     match measured {
-        Some(run) => push_run(text, held, first, run),
+        Some(run) => push_run(text, held, base, run),
         None => text.extend_from_slice(b" full"),
     }
 }
 
 #[tactic(auto, unfolding(crate::specs::Text::run_text))]
-fn push_run(
-    text: &mut Vec<u8>,
-    held: bool,
-    first: &Option<Measured>,
-    run: &Measured,
-) -> Result<(), AllocError>
-    requires first { IfSome first.now HasFewSteps }
+fn push_run(text: &mut Vec<u8>, held: bool, base: &Base, run: &Measured) -> Result<(), AllocError>
+    requires first { IfSome base.now.first HasFewSteps }
     requires run { HasFewSteps run.now }
-    ensures { OnOk result (text.new.items ≡ text.old.items ++ spec.run_text held first.now run.now) }
+    ensures { OnOk result (text.new.items ≡ text.old.items ++ spec.run_text held base.now run.now) }
 {
     push_number(text, b" steps ", run.ran.steps)?;
-    push_gain(text, first, run.ran.steps)?;
-    push_account(text, held, &run.ran.account)?;
+    push_gain(text, &base.first, run.ran.steps)?;
+    push_order(text, base.order)?;
+    push_account(text, held, base.order.is_some(), &run.ran.account)?;
     push_number(text, b" restarts ", run.restarts)?;
     push_kinds(text, &run.kinds)?;
     push_waits(text, &run.ran.account)
@@ -98,16 +94,45 @@ fn push_hundredths(text: &mut Vec<u8>, n: u64) -> Result<(), AllocError>
 }
 
 #[tactic(auto, unfolding(crate::specs::Text::account_text))]
-fn push_account(text: &mut Vec<u8>, held: bool, account: &Account) -> Result<(), AllocError>
+fn push_account(
+    text: &mut Vec<u8>,
+    held: bool,
+    priced: bool,
+    account: &Account,
+) -> Result<(), AllocError>
     requires { spec.HasFew account.now }
-    ensures { OnOk result (text.new.items ≡ text.old.items ++ spec.account_text held account.now) }
+    ensures { OnOk result (text.new.items ≡ text.old.items ++ spec.account_text held priced account.now) }
 {
-    push_number(text, b" useful ", account.useful)?;
+    push_useful(text, priced, account)?;
     push_number(text, b" lost ", account.lost)?;
     push_number(text, b" dropped ", account.dropped)?;
     push_number(text, b" waiting ", account.waiting())?;
     push_held(text, held, account.held)?;
     push_number(text, b" idle ", account.idle)
+}
+
+/// How many steps the loop takes in order, where turns cost something.
+fn push_order(text: &mut Vec<u8>, order: Option<u64>) -> Result<(), AllocError>
+    ensures { OnOk result (text.new.items ≡ text.old.items ++ spec.order_text order) }
+{
+    match order {
+        Some(steps) => push_number(text, b" order ", steps),
+        None => Ok(()),
+    }
+}
+
+/// The steps of attempts that committed: where turns cost something, the instructions and what went beside them.
+fn push_useful(text: &mut Vec<u8>, priced: bool, account: &Account) -> Result<(), AllocError>
+    requires { spec.HasFew account.now }
+    ensures { OnOk result (text.new.items ≡ text.old.items ++ spec.useful_text priced account.now) }
+{
+    if !priced {
+        return push_number(text, b" useful ", account.useful());
+    }
+    push_number(text, b" busy ", account.busy)?;
+    push_number(text, b" handling ", account.spent.handling)?;
+    push_number(text, b" memory ", account.spent.memory)?;
+    push_number(text, b" queue ", account.spent.queue)
 }
 
 /// How long cores were held, where that is told.

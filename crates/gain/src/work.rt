@@ -11,7 +11,7 @@ ghost use Rattle.gain.specs.Gains.{GainAnswers};
 ghost use Rattle.gain.specs.Work as spec;
 
 use crate::gains::{Study, do_gain};
-use all_schedules::{addresses_of, wait_place, wait_words};
+use all_schedules::{addresses_of, costs_behind, wait_place, wait_words};
 use std::alloc::{AllocError, Global};
 use std::convert::AsStr;
 use std::io::{Read, Write};
@@ -19,7 +19,8 @@ use trace_commands::{CommandStop, Outcome, first_word, stores_asked};
 
 /// The whole program: what the loop gains on as many cores as the words ask for, 1 to 16, over each of the stores that they name,
 /// `gain CORES STORE ..`; over caches and the plain store, where they name none. Behind these, with `--held`, also of held runs, and with
-/// `--wait PC ..` where the loads at these addresses of code wait. Where the last word is `--limits`, also what its dependences allow. The first word is the program's name.
+/// `--wait PC ..` where the loads at these addresses of code wait. With `--limits` behind that, also what its dependences allow. Behind all of
+/// them may stand what turns cost, as `all_schedules::costs_behind` reads it. The first word is the program's name.
 ///
 /// Any other words are refused as `usage`, with status 2, and nothing is read or written. The room is 16 to `homefree::MOST_ROOM`
 /// entries.
@@ -40,7 +41,7 @@ pub fn work<S: AsStr, R: Read, W: Write, E: Write>(
 {
     match study_asked(words, room) {
         Some((study, waits, stores)) => {
-            gain_over(alloc, study, waits, stores, reader, writer, errors)
+            gain_over(alloc, &study, waits, stores, reader, writer, errors)
         }
         None => Outcome::Usage.conclude(errors),
     }
@@ -50,12 +51,15 @@ pub fn work<S: AsStr, R: Read, W: Write, E: Write>(
 #[tactic(auto, unfolding(crate::specs::Asked::gain_asked_in))]
 fn study_asked<S: AsStr>(words: &[S], room: u32) -> Option<(Study, &[S], &[S])>
     ensures asked { IfSome result (λ found. gain_asked_in (map S.text words.now)
-        ≡ Some (record { cores = found.0.cores; stores = or_both (map S.text found.2.now); held = found.0.held; addresses = addresses_of (map S.text found.1.now); limits = found.0.limits })) }
+        ≡ Some (record { cores = found.0.cores; stores = or_both (map S.text found.2.now); held = found.0.held; addresses = addresses_of (map S.text found.1.now); limits = found.0.limits; costs = found.0.costs })) }
     ensures cores { IfSome result (λ found. 1 ≤ found.0.cores) }
     ensures room { IfSome result (λ found. found.0.room ≡ room) }
     ensures stores { IfSome result (λ found. list_all names_store (map S.text found.2.now) ≡ true) }
     ensures none { IfNone result (gain_asked_in (map S.text words.now) ≡ None) }
 {
+    let Some((costs, words)) = costs_behind(words) else {
+        return None;
+    };
     let (limits, words) = cut_limits(words);
     let (cores, held, waits, stores) = waits_asked(words)?;
     let study = Study {
@@ -63,6 +67,7 @@ fn study_asked<S: AsStr>(words: &[S], room: u32) -> Option<(Study, &[S], &[S])>
         room,
         held,
         limits,
+        costs,
     };
     Some((study, waits, stores))
 }
@@ -72,7 +77,7 @@ fn study_asked<S: AsStr>(words: &[S], room: u32) -> Option<(Study, &[S], &[S])>
 #[tactic(auto, using(crate::proofs::Waiting::are_asked, crate::proofs::Waiting::no_waits, crate::proofs::Waiting::no_stores))]
 fn waits_asked<S: AsStr>(words: &[S]) -> Option<(u32, bool, &[S], &[S])>
     ensures asked { IfSome result (λ found. (limits : Bool) → asked_before_limits limits (map S.text words.now)
-        ≡ Some (record { cores = found.0; stores = or_both (map S.text found.3.now); held = found.1; addresses = addresses_of (map S.text found.2.now); limits = limits })) }
+        ≡ Some (record { cores = found.0; stores = or_both (map S.text found.3.now); held = found.1; addresses = addresses_of (map S.text found.2.now); limits = limits; costs = None })) }
     ensures cores { IfSome result (λ found. 1 ≤ found.0) }
     ensures stores { IfSome result (λ found. list_all names_store (map S.text found.3.now) ≡ true) }
     ensures none { IfNone result ((limits : Bool) → asked_before_limits limits (map S.text words.now) ≡ None) }
@@ -118,18 +123,18 @@ fn cut_held<S: AsStr>(words: &[S]) -> (bool, &[S])
 /// store, where no word names a store.
 fn gain_over<S: AsStr, R: Read, W: Write, E: Write>(
     alloc: Global,
-    study: Study,
+    study: &Study,
     waits: &[S],
     stores: &[S],
     reader: &mut R,
     writer: &mut W,
     errors: &mut E,
 ) -> u8
-    requires cores { 1 ≤ study.cores }
-    requires least { 16 ≤ study.room }
-    requires most { study.room ≤ most_room }
+    requires cores { 1 ≤ study.now.cores }
+    requires least { 16 ≤ study.now.room }
+    requires most { study.now.room ≤ most_room }
     requires stores { list_all names_store (map S.text stores.now) ≡ true }
-    ensures outcome { ForText (R.remaining reader.old) (λ text. GainAnswers study (addresses_of (map S.text waits.now)) (or_both (map S.text stores.now)) text
+    ensures outcome { ForText (R.remaining reader.old) (λ text. GainAnswers study.now (addresses_of (map S.text waits.now)) (or_both (map S.text stores.now)) text
         (record { old = W.contents writer.old; new = W.contents writer.new }) (record { old = E.contents errors.old; new = E.contents errors.new }) result) }
     ensures taken { TakesAtMost (R.remaining reader.old) (R.remaining reader.new) (longest_image_text + 1) }
 {
@@ -151,18 +156,18 @@ fn gain_over<S: AsStr, R: Read, W: Write, E: Write>(
 #[tactic(auto, unfolding(trace_commands::specs::Stores::store_named))]
 fn gain_waiting<S: AsStr, R: Read, W: Write, E: Write>(
     alloc: Global,
-    study: Study,
+    study: &Study,
     addresses: &[u32],
     stores: &[S],
     reader: &mut R,
     writer: &mut W,
     errors: &mut E,
 ) -> u8
-    requires cores { 1 ≤ study.cores }
-    requires least { 16 ≤ study.room }
-    requires most { study.room ≤ most_room }
+    requires cores { 1 ≤ study.now.cores }
+    requires least { 16 ≤ study.now.room }
+    requires most { study.now.room ≤ most_room }
     requires stores { list_all names_store (map S.text stores.now) ≡ true }
-    ensures outcome { ForText (R.remaining reader.old) (λ text. GainAnswers study addresses.now (or_both (map S.text stores.now)) text
+    ensures outcome { ForText (R.remaining reader.old) (λ text. GainAnswers study.now addresses.now (or_both (map S.text stores.now)) text
         (record { old = W.contents writer.old; new = W.contents writer.new }) (record { old = E.contents errors.old; new = E.contents errors.new }) result) }
     ensures taken { TakesAtMost (R.remaining reader.old) (R.remaining reader.new) (longest_image_text + 1) }
 {

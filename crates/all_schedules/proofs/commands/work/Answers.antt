@@ -1,8 +1,9 @@
-use Rattle.std.proofs.Common.{map, sym, subst}
+use Rattle.std.proofs.Common.{ℕ, map, sym, subst}
 use Rattle.violations.specs.View.{never_waits}
 use Rattle.violations.specs.Plain as plain
 use Rattle.spec_bus.specs.Cached as caches
 use Rattle.spec_bus.specs.Laws as cache
+use Rattle.turn_costs.specs.Prices.{bus_prices, no_prices}
 use Rattle.turn_steps.specs.Caches.{cached_changes}
 use Rattle.turn_steps.specs.KeptCores.{plain_changes}
 use Rattle.run_command.proofs.Outcomes.{for_text}
@@ -22,7 +23,7 @@ returns-in-Caches g c =
     let output : Stream = record { old = g.W.Write.contents c.args.writer.now; new = g.W.Write.contents c.answer.new.writer } in
     let errors : Stream = record { old = g.E.Write.contents c.args.errors.now; new = g.E.Write.contents c.answer.new.errors } in
     for_text (g.R.Read.remaining c.args.reader.now)
-    (λ text. TurnsAnswer cache.Starts cache.Makes caches.store_view caches.waits cached_changes (addresses_of (map g.S.AsStr.text c.in-Some.waits.now)) (settings_of (Caches c.in-Caches.asked) c.args.room) request.turns text input output errors c.answer.result)
+    (λ text. TurnsAnswer cache.Starts cache.Makes caches.store_view caches.waits bus_prices (λ v. (k : ℕ) → cache.IsPlacedCore v.cores k) cached_changes (addresses_of (map g.S.AsStr.text c.in-Some.waits.now)) (settings_of (Caches c.in-Caches.asked) c.args.room) request.turns text input output errors c.answer.result)
     (λ text. WorkAnswers words c.args.room text input output errors c.answer.result)
     (λ text so. request_answers words request (addresses_of (map g.S.AsStr.text c.in-Some.waits.now)) c.args.room text input output errors c.answer.result c.in-Some.ensures.asked
     (subst (λ (s : Store). StoreAnswers s (addresses_of (map g.S.AsStr.text c.in-Some.waits.now)) c.args.room request.turns text input output errors c.answer.result) (sym c.in-Caches.is) so)) c.answer.ensures
@@ -35,7 +36,7 @@ returns-in-Plain g c =
     let output : Stream = record { old = g.W.Write.contents c.args.writer.now; new = g.W.Write.contents c.answer-in-Plain.new.writer } in
     let errors : Stream = record { old = g.E.Write.contents c.args.errors.now; new = g.E.Write.contents c.answer-in-Plain.new.errors } in
     for_text (g.R.Read.remaining c.args.reader.now)
-    (λ text. TurnsAnswer plain.Starts plain.Makes plain.store_view (λ _. never_waits) plain_changes (addresses_of (map g.S.AsStr.text c.in-Some.waits.now)) (settings_of Plain c.args.room) request.turns text input output errors c.answer-in-Plain.result)
+    (λ text. TurnsAnswer plain.Starts plain.Makes plain.store_view (λ _. never_waits) (λ _. no_prices) (λ _. Unit {0}) plain_changes (addresses_of (map g.S.AsStr.text c.in-Some.waits.now)) (settings_of Plain c.args.room) request.turns text input output errors c.answer-in-Plain.result)
     (λ text. WorkAnswers words c.args.room text input output errors c.answer-in-Plain.result)
     (λ text so. request_answers words request (addresses_of (map g.S.AsStr.text c.in-Some.waits.now)) c.args.room text input output errors c.answer-in-Plain.result c.in-Some.ensures.asked
     (subst (λ (s : Store). StoreAnswers s (addresses_of (map g.S.AsStr.text c.in-Some.waits.now)) c.args.room request.turns text input output errors c.answer-in-Plain.result) (sym c.in-Plain.is) so)) c.answer-in-Plain.ensures

@@ -10,7 +10,9 @@ returns g c addresses =
     let makes = g.S.EpochStore.makes in
     let view = g.S.EpochStore.view in
     let waits = g.S.EpochStore.waits in
+    let prices = g.S.PricedStore.prices in
+    let keeps = g.S.PricedStore.keeps in
     let l = loop_on c.args.image.now c.args.cores c.args.room in
-    MatchResult-weaker c.show_holding.result c.show_holding.ensures
-    (λ shown is. held_text starts makes view waits addresses l c.args.pieces (holding_of c.in-Ok.holds) shown.0 shown.1.items c.in-Ok.ensures is)
-    (λ cause is. held_stop starts makes view waits addresses l c.args.pieces (holding_of c.in-Ok.holds) cause c.in-Ok.ensures is)
+    MatchResult-weaker c.show_run.result c.show_run.ensures
+    (λ shown is. held_text starts makes view waits prices keeps addresses l c.args.pieces c.args.costs (holding_of c.in-Ok.holds) shown.0 shown.1.items c.in-Ok.ensures is)
+    (λ cause is. held_stop starts makes view waits prices keeps addresses l c.args.pieces c.args.costs (holding_of c.in-Ok.holds) cause c.in-Ok.ensures is)

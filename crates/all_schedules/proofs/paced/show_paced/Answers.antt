@@ -10,8 +10,10 @@ returns-in-Even g c =
     let makes = g.S.EpochStore.makes in
     let view = g.S.EpochStore.view in
     let waits = g.S.EpochStore.waits in
+    let prices = g.S.PricedStore.prices in
+    let keeps = g.S.PricedStore.keeps in
     let l = loop_on c.args.image.now c.args.cores c.args.room in
-    subst (λ (pace : Pace). MatchResult c.show_even.result (λ shown. IsPacedText starts makes view waits c.args.addresses.now pace l shown.0 shown.1.items) (IsPacedStop starts makes view waits c.args.addresses.now pace l))
+    subst (λ (pace : Pace). MatchResult c.show_even.result (λ shown. IsPacedText starts makes view waits prices keeps c.args.addresses.now pace l shown.0 shown.1.items) (IsPacedStop starts makes view waits prices keeps c.args.addresses.now pace l))
     (sym c.in-Even.is) c.show_even.ensures
 
 pub returns-in-Held : goal.returns-in-Held
@@ -20,8 +22,10 @@ returns-in-Held g c =
     let makes = g.S.EpochStore.makes in
     let view = g.S.EpochStore.view in
     let waits = g.S.EpochStore.waits in
+    let prices = g.S.PricedStore.prices in
+    let keeps = g.S.PricedStore.keeps in
     let l = loop_on c.args.image.now c.args.cores c.args.room in
-    subst (λ (pace : Pace). MatchResult c.show_held.result (λ shown. IsPacedText starts makes view waits c.args.addresses.now pace l shown.0 shown.1.items) (IsPacedStop starts makes view waits c.args.addresses.now pace l))
+    subst (λ (pace : Pace). MatchResult c.show_held.result (λ shown. IsPacedText starts makes view waits prices keeps c.args.addresses.now pace l shown.0 shown.1.items) (IsPacedStop starts makes view waits prices keeps c.args.addresses.now pace l))
     (sym c.in-Held.is) (c.show_held.ensures c.args.addresses.now)
 
 pub returns-in-Seeded : goal.returns-in-Seeded
@@ -30,6 +34,8 @@ returns-in-Seeded g c =
     let makes = g.S.EpochStore.makes in
     let view = g.S.EpochStore.view in
     let waits = g.S.EpochStore.waits in
+    let prices = g.S.PricedStore.prices in
+    let keeps = g.S.PricedStore.keeps in
     let l = loop_on c.args.image.now c.args.cores c.args.room in
-    subst (λ (pace : Pace). MatchResult c.show_seeded.result (λ shown. IsPacedText starts makes view waits c.args.addresses.now pace l shown.0 shown.1.items) (IsPacedStop starts makes view waits c.args.addresses.now pace l))
+    subst (λ (pace : Pace). MatchResult c.show_seeded.result (λ shown. IsPacedText starts makes view waits prices keeps c.args.addresses.now pace l shown.0 shown.1.items) (IsPacedStop starts makes view waits prices keeps c.args.addresses.now pace l))
     (sym c.in-Seeded.is) (c.show_seeded.ensures c.args.addresses.now)

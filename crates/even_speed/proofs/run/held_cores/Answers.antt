@@ -13,7 +13,7 @@ use Rattle.even_speed.proofs.run.held_cores.Goals as goal
 
 pub returns-then-holds_none : goal.returns-then-holds_none
 returns-then-holds_none g c k below =
-    none_waits 16 k ∙ sym (held_in_none c.args.book.now c.args.holds.now (harts_of c.args.held.now) k (c.holds_none.ensures c.if-holds_none.true))
+    none_waits 16 k ∙ sym (held_in_none c.args.book.now c.args.holds.now (harts_of c.args.held.now) k (sym c.holds_none.ensures ∙ c.if-holds_none.true))
 
 pub is_held-waits-requires-clause-arrived : goal.is_held-waits-requires-clause-arrived
 is_held-waits-requires-clause-arrived g c =

@@ -6,7 +6,7 @@ use Rattle.gain.proofs.stores.push_stores.Given as goal
 -- what the stores that are left add to the text, all add to the text before
 abbrev pub invariant-loop-word : goal.invariant-loop-word
 invariant-loop-word g l = record {
-  stores : RunsOnAll l.image l.cores (map g.S.AsStr.text (drop l.word-index l.words));
-  adds : (new : List ℕ) → AddStores l.held l.addresses l.image l.cores l.room (map g.S.AsStr.text (drop l.word-index l.words)) l.text.items new
-      → AddStores l.held l.addresses l.image l.cores l.room (map g.S.AsStr.text l.words) l.initial.text.items new;
+  stores : RunsOnAll l.image l.study.cores (map g.S.AsStr.text (drop l.word-index l.words));
+  adds : (new : List ℕ) → AddStores l.study l.addresses l.image (map g.S.AsStr.text (drop l.word-index l.words)) l.text.items new
+      → AddStores l.study l.addresses l.image (map g.S.AsStr.text l.words) l.initial.text.items new;
 }

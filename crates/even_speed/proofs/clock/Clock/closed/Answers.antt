@@ -2,7 +2,7 @@ use Rattle.even_speed.proofs.Sounding.{closed_end, may_wake_end, told_end, woken
 use Rattle.even_speed.proofs.clock.Clock.closed.Goals as goal
 
 pub woken-requires-clause-may : goal.woken-requires-clause-may
-woken-requires-clause-may c = may_wake_end c.args.end c.args.self c.requires.least c.requires.sound
+woken-requires-clause-may c = may_wake_end c.args.end c.args.self c.requires.least c.requires.end c.requires.sound
 
 pub dropped-requires-clause-told : goal.dropped-requires-clause-told
 dropped-requires-clause-told c = told_end c.args.end c.args.self c.woken.result c.requires.least c.requires.sound c.woken.ensures

@@ -1,6 +1,6 @@
 use Rattle.std.proofs.Common.{sym, ◌∙◌}
 use Rattle.all_schedules.proofs.Waiting.{may_not, may_wait, no_request, no_waits, none_too}
-use Rattle.all_schedules.proofs.words.asked_of.Goals as goal
+use Rattle.all_schedules.proofs.words.asked_before_costs.Goals as goal
 
 pub returns-in_err-waits-clause-none : goal.returns-in_err-waits-clause-none
 returns-in_err-waits-clause-none g c =
