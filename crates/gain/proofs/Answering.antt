@@ -64,7 +64,7 @@ none_taken (Some text) = ([], refl, omega arith)
 
 -- they ask for cores and stores
 pub gain_answers : (words : List (List ℕ)) (study : Study) (addresses : List ℕ) (stores : List (List ℕ)) (room : ℕ) (input output errors : Stream) (status : ℕ)
-    → gain_asked_in words ≡ Some (record { cores = study.cores; stores = stores; held = study.held; addresses = addresses; limits = study.limits; costs = study.costs }) → study.room ≡ room
+    → gain_asked_in words ≡ Some (record { cores = study.cores; stores = stores; held = study.held; addresses = addresses; limits = study.limits; costs = study.costs; even = study.even }) → study.room ≡ room
     → TakesAtMost input.old input.new (longest_image_text + 1)
     → ForText input.old (λ text. GainAnswers study addresses stores text output errors status) → ForText input.old (λ text. WorkAnswers words room text input output errors status)
 gain_answers words study addresses stores room input output errors status asked with_room taken =

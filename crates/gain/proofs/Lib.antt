@@ -1,4 +1,5 @@
 pub mod Adds
+pub mod Evens
 pub mod Answering
 pub mod Words
 pub mod Waiting

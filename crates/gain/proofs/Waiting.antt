@@ -1,5 +1,5 @@
 -- What is asked for where some of the words are addresses of loads that wait.
-use Rattle.std.proofs.Common.{◌≡◌, ℕ, Bool, List, take, drop, map, Option, Some, None, sym, ap, refl, ◌∙◌}
+use Rattle.std.proofs.Common.{◌≡◌, ℕ, Bool, List, take, drop, map, Option, Some, None, false, sym, ap, refl, ◌∙◌}
 use Rattle.std.specs.List.{drop-map, take-map}
 use Rattle.trace_commands.specs.Stores.{stores_asked_in}
 use Rattle.all_schedules.specs.Addresses.{wait_place, waits_in}
@@ -24,7 +24,7 @@ parts text words before behind place at front back limits =
 pub are_asked : {A : Type 0} (text : A → List ℕ) (words before rest behind : List A) (place : ℕ) → place ≡ wait_place (map text words) → before ≡ take place words → behind ≡ drop place words
     → (held : Bool) → held ≡ asks_held (map text before) → map text rest ≡ without_held (map text before)
     → (limits : Bool) (addresses : List ℕ) (cores : ℕ) (stores : List (List ℕ)) → waits_in (map text behind) ≡ Some addresses → stores_asked_in (map text rest) ≡ Some (record { cores = cores; stores = stores })
-    → asked_before_limits limits (map text words) ≡ Some (record { cores = cores; stores = stores; held = held; addresses = addresses; limits = limits; costs = None })
+    → asked_before_limits limits (map text words) ≡ Some (record { cores = cores; stores = stores; held = held; addresses = addresses; limits = limits; costs = None; even = false })
 are_asked text words before rest behind place at front back held is without limits addresses cores stores waits found =
     parts text words before behind place at front back limits
     ∙ (ap (λ h. asked_where limits h (waits_in (map text behind)) (stores_asked_in (without_held (map text before)))) (sym is)

@@ -5,9 +5,10 @@ use Rattle.trace_commands.specs.declared.store.Store.{Store}
 use Rattle.all_schedules.specs.Holding.{pieces_of}
 use Rattle.gain.specs.declared.gains.Study.{Study}
 use Rattle.gain.specs.declared.lines.Waiting.{Waiting}
-use Rattle.gain.specs.Gains.{AddLinesOf, AddWaiting, AreWaiting}
+use Rattle.gain.specs.Gains.{AddEvensOf, AddLinesOf, AddWaiting, AreWaiting}
 
-pub lines_over : {T E : Type 0} (r : Result T E) (study : Study) (addresses : List ℕ) (image : LoadedImage) (store : Store) (word old new : List ℕ) (w : Waiting)
-    → AreWaiting image addresses study (pieces_of store) w → OnOk r (AddWaiting w image store study.cores study.room word old new) → OnOk r (AddLinesOf study addresses image store word old new)
-lines_over (Ok done) study addresses image store word old new w waiting lines = (w, waiting, lines)
-lines_over (Err fault) study addresses image store word old new w waiting lines = lines
+pub lines_over : {T E : Type 0} (r : Result T E) (study : Study) (addresses : List ℕ) (image : LoadedImage) (store : Store) (word old mid new : List ℕ) (w : Waiting)
+    → AreWaiting image addresses study (pieces_of store) w → AddWaiting w image store study.cores study.room word old mid
+    → OnOk r (AddEvensOf study.even study addresses image store word mid new) → OnOk r (AddLinesOf study addresses image store word old new)
+lines_over (Ok done) study addresses image store word old mid new w waiting lines evens = (w, waiting, mid, lines, evens)
+lines_over (Err fault) study addresses image store word old mid new w waiting lines evens = evens

@@ -1,6 +1,6 @@
 -- What the words of a command line ask for: `PROGRAM CORES` or `PROGRAM CORES STORE ..`, behind that with `--held` lines of held runs, with `--wait
 -- PC ..` which loads wait, with `--limits` the limits, and
--- with `--costs KEY=N,..` and `--hold N` what turns cost.
+-- with `--costs KEY=N,..` and `--hold N` what turns cost, and with `--even-at` up to which costs it gains.
 -- Source: this project.
 use Rattle.std.specs.Prelude.{ℕ, ◌-◌, Bool, false, List, [], ◌∷◌, length, take, drop, Option, Some, None, option_map, codes, if◌then◌else◌}
 use Rattle.std.specs.Str.{bytes_eq}
@@ -9,8 +9,8 @@ use Rattle.turn_costs.specs.declared.costs.Costs.{Costs}
 use Rattle.all_schedules.specs.Addresses.{wait_place, waits_in}
 use Rattle.all_schedules.specs.CostWords.{CostsBehind, costs_behind}
 
--- so many cores, stores by the words that name them, whether held runs are printed too, the addresses of the loads that wait, whether limits are, and
--- what turns cost
+-- so many cores, stores by the words that name them, whether held runs are printed too, the addresses of the loads that wait, whether limits are,
+-- what turns cost, and whether lines `even` are
 pub record GainAsked : Type 0 where
   pub cores : ℕ
   pub stores : List (List ℕ)
@@ -18,6 +18,7 @@ pub record GainAsked : Type 0 where
   pub addresses : List ℕ
   pub limits : Bool
   pub costs : Option Costs
+  pub even : Bool
 
 -- ---- the last word
 
@@ -46,7 +47,7 @@ without_held words = without_last (codes "--held") words
 -- ---- all words
 
 abbrev pub asked_with : Bool → Bool → List ℕ → StoresAsked → GainAsked
-asked_with limits held addresses asked = record { cores = asked.cores; stores = asked.stores; held = held; addresses = addresses; limits = limits; costs = None }
+asked_with limits held addresses asked = record { cores = asked.cores; stores = asked.stores; held = held; addresses = addresses; limits = limits; costs = None; even = false }
 
 abbrev pub asked_where : Bool → Bool → Option (List ℕ) → Option StoresAsked → Option GainAsked
 asked_where limits held (Some addresses) stores = option_map (asked_with limits held addresses) stores
@@ -70,6 +71,15 @@ abbrev pub asked_behind : Option CostsBehind → Option GainAsked
 asked_behind (Some behind) = option_map (at_costs behind.costs) (asked_before_costs behind.words)
 asked_behind None = None
 
--- any other words ask for nothing
+abbrev pub asks_even : List (List ℕ) → Bool
+asks_even words = ends_with (codes "--even-at") words
+
+abbrev pub without_even : List (List ℕ) → List (List ℕ)
+without_even words = without_last (codes "--even-at") words
+
+abbrev pub at_even : Bool → GainAsked → GainAsked
+at_even even asked = record asked { even = even }
+
+-- the last word may ask for the lines `even`; any other words ask for nothing
 unfoldable pub gain_asked_in : List (List ℕ) → Option GainAsked
-gain_asked_in words = asked_behind (costs_behind words)
+gain_asked_in words = option_map (at_even (asks_even words)) (asked_behind (costs_behind (without_even words)))

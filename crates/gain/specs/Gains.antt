@@ -28,6 +28,7 @@ use Rattle.all_schedules.specs.Stores.{HasRefused, RunsOnAll, on_store}
 use Rattle.gain.specs.declared.gains.Study.{Study}
 use Rattle.gain.specs.declared.lines.Waiting.{Waiting}
 use Rattle.gain.specs.Lines.{AddLines}
+use Rattle.gain.specs.Evens.{AddEvens}
 use Rattle.gain.specs.Text.{shows_held}
 use Rattle.gain.specs.Limits.{AddLimitsIf}
 
@@ -58,9 +59,18 @@ AddWaiting w image (Caches asked) cores room word old new =
 AddWaiting w image Plain cores room word old new =
     AddLines plain.Starts plain.Makes plain.store_view (λ _. never_waits) (λ _. no_prices) (λ _. Unit {0}) w image room word cores old new
 
+-- and where they are asked for, those of the costs up to which it gains
+abbrev pub AddEvensOf : Bool → Study → List ℕ → LoadedImage → Store → List ℕ → List ℕ → List ℕ → Type 0
+AddEvensOf true study addresses image (Caches asked) word old new =
+    AddEvens cache.Starts cache.Makes caches.store_view caches.waits bus_prices (λ v. (k : ℕ) → cache.IsPlacedCore v.cores k) addresses study image word old new
+AddEvensOf true study addresses image Plain word old new =
+    AddEvens plain.Starts plain.Makes plain.store_view (λ _. never_waits) (λ _. no_prices) (λ _. Unit {0}) addresses study image word old new
+AddEvensOf false study addresses image store word old new = new ≡ old
+
 abbrev pub AddLinesOf : Study → List ℕ → LoadedImage → Store → List ℕ → List ℕ → List ℕ → Type 0
 AddLinesOf study addresses image store word old new =
-    (w : Waiting) × AreWaiting image addresses study (pieces_of store) w × AddWaiting w image store study.cores study.room word old new
+    (w : Waiting) × AreWaiting image addresses study (pieces_of store) w
+    × (mid : List ℕ) × AddWaiting w image store study.cores study.room word old mid × AddEvensOf study.even study addresses image store word mid new
 
 -- so of the loop on the machine that the store asks for
 abbrev pub AddStore : Study → List ℕ → LoadedImage → List ℕ → Option Store → List ℕ → List ℕ → Type 0

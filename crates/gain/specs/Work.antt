@@ -10,7 +10,7 @@ use Rattle.gain.specs.Gains.{GainAnswers}
 
 -- what is asked for, with so much room for a history
 abbrev pub study_of : GainAsked → ℕ → Study
-study_of asked room = record { cores = asked.cores; room = room; held = asked.held; limits = asked.limits; costs = asked.costs }
+study_of asked room = record { cores = asked.cores; room = room; held = asked.held; limits = asked.limits; costs = asked.costs; even = asked.even }
 
 -- where cores and stores are asked for, the gains are answered, and of the input no more than it may be long, and one byte, was taken; where
 -- nothing is, `usage`

@@ -32,6 +32,8 @@ pub struct Study {
     pub limits: bool,
     /// What turns cost. None: nothing.
     pub costs: Option<Costs>,
+    /// Whether it is asked too up to which costs it gains.
+    pub even: bool,
 }
 
 /// Runs the image that the reader gives at even speed on 1, 2, 4, 8 cores, as far as these are fewer than the cores, and on the cores, over

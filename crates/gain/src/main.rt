@@ -10,6 +10,7 @@ use std::process::ExitCode;
 use trace_commands::words_given;
 use work::work;
 
+mod even_lines;
 mod gains;
 mod kinds;
 mod limit_lines;

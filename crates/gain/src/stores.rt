@@ -7,6 +7,7 @@ ghost use Rattle.all_schedules.specs.Holding.{pieces_of};
 ghost use Rattle.all_schedules.specs.Stores.{RunsOn, RunsOnAll};
 ghost use Rattle.gain.specs.Gains as spec;
 
+use crate::even_lines::push_evens;
 use crate::gains::Study;
 use crate::lines::{Waiting, push_lines};
 use crate::text::shows_held;
@@ -83,13 +84,54 @@ fn push_lines_of(
     ensures { OnOk result (spec.AddLinesOf study.now addresses.now image.now store word.now text.old.items text.new.items) }
 {
     let waiting = waiting_over(alloc, image, study, addresses, store)?;
+    push_runs(alloc, text, word, image, study, store, &waiting)?;
+    push_evens_of(alloc, text, word, image, study, addresses, store)
+}
+
+/// Adds the lines of the runs over this store, on these terms.
+fn push_runs(
+    alloc: Global,
+    text: &mut Vec<u8>,
+    word: &[u8],
+    image: &Image,
+    study: &Study,
+    store: Store,
+    waiting: &Waiting,
+) -> Result<(), AllocError>
+    requires cores { IsCoreCount image.now study.now.cores }
+    requires least { 16 ≤ study.now.room }
+    requires most { study.now.room ≤ most_room }
+    ensures { OnOk result (spec.AddWaiting waiting.now image.now store study.now.cores study.now.room word.now text.old.items text.new.items) }
+{
     let cores = study.cores;
     let room = study.room;
     match store {
-        Store::Caches(_) => {
-            push_lines::<CachedBus>(alloc, text, word, image, cores, room, &waiting)
-        }
-        Store::Plain => push_lines::<PlainStore>(alloc, text, word, image, cores, room, &waiting),
+        Store::Caches(_) => push_lines::<CachedBus>(alloc, text, word, image, cores, room, waiting),
+        Store::Plain => push_lines::<PlainStore>(alloc, text, word, image, cores, room, waiting),
+    }
+}
+
+/// Adds the lines of the costs up to which the loop gains over this store, where they are asked for.
+fn push_evens_of(
+    alloc: Global,
+    text: &mut Vec<u8>,
+    word: &[u8],
+    image: &Image,
+    study: &Study,
+    addresses: &[u32],
+    store: Store,
+) -> Result<(), AllocError>
+    requires cores { IsCoreCount image.now study.now.cores }
+    requires least { 16 ≤ study.now.room }
+    requires most { study.now.room ≤ most_room }
+    ensures { OnOk result (spec.AddEvensOf study.now.even study.now addresses.now image.now store word.now text.old.items text.new.items) }
+{
+    if !study.even {
+        return Ok(());
+    }
+    match store {
+        Store::Caches(_) => push_evens::<CachedBus>(alloc, text, word, image, study, addresses),
+        Store::Plain => push_evens::<PlainStore>(alloc, text, word, image, study, addresses),
     }
 }
 

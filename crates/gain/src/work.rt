@@ -1,4 +1,4 @@
-ghost use Rattle.std.specs.Prelude.{◌≡◌, ◌≤◌, ◌+◌, Bool, true, Some, None, IfNone, IfSome, map};
+ghost use Rattle.std.specs.Prelude.{◌≡◌, ◌≤◌, ◌+◌, Bool, true, false, Some, None, IfNone, IfSome, map};
 ghost use Rattle.std.specs.List.{list_all};
 ghost use Rattle.rv32_image.specs.Input.{TakesAtMost};
 ghost use Rattle.rv32_image.specs.ImageText.{longest_image_text};
@@ -6,7 +6,7 @@ ghost use Rattle.rv32_image.specs.Reading.{ForText};
 ghost use Rattle.homefree.specs.Room.{most_room};
 ghost use Rattle.trace_commands.specs.Stores.{names_store, or_both};
 ghost use Rattle.all_schedules.specs.Addresses.{addresses_of};
-ghost use Rattle.gain.specs.Asked.{asked_before_limits, asks_held, asks_limits, gain_asked_in, without_held, without_limits};
+ghost use Rattle.gain.specs.Asked.{asked_before_limits, asks_even, asks_held, asks_limits, gain_asked_in, without_even, without_held, without_limits};
 ghost use Rattle.gain.specs.Gains.{GainAnswers};
 ghost use Rattle.gain.specs.Work as spec;
 
@@ -20,7 +20,8 @@ use trace_commands::{CommandStop, Outcome, first_word, stores_asked};
 /// The whole program: what the loop gains on as many cores as the words ask for, 1 to 16, over each of the stores that they name,
 /// `gain CORES STORE ..`; over caches and the plain store, where they name none. Behind these, with `--held`, also of held runs, and with
 /// `--wait PC ..` where the loads at these addresses of code wait. With `--limits` behind that, also what its dependences allow. Behind all of
-/// them may stand what turns cost, as `all_schedules::costs_behind` reads it. The first word is the program's name.
+/// them may stand what turns cost, as `all_schedules::costs_behind` reads it, and last `--even-at`, which asks up to which costs it gains. The
+/// first word is the program's name.
 ///
 /// Any other words are refused as `usage`, with status 2, and nothing is read or written. The room is 16 to `homefree::MOST_ROOM`
 /// entries.
@@ -51,12 +52,13 @@ pub fn work<S: AsStr, R: Read, W: Write, E: Write>(
 #[tactic(auto, unfolding(crate::specs::Asked::gain_asked_in))]
 fn study_asked<S: AsStr>(words: &[S], room: u32) -> Option<(Study, &[S], &[S])>
     ensures asked { IfSome result (λ found. gain_asked_in (map S.text words.now)
-        ≡ Some (record { cores = found.0.cores; stores = or_both (map S.text found.2.now); held = found.0.held; addresses = addresses_of (map S.text found.1.now); limits = found.0.limits; costs = found.0.costs })) }
+        ≡ Some (record { cores = found.0.cores; stores = or_both (map S.text found.2.now); held = found.0.held; addresses = addresses_of (map S.text found.1.now); limits = found.0.limits; costs = found.0.costs; even = found.0.even })) }
     ensures cores { IfSome result (λ found. 1 ≤ found.0.cores) }
     ensures room { IfSome result (λ found. found.0.room ≡ room) }
     ensures stores { IfSome result (λ found. list_all names_store (map S.text found.2.now) ≡ true) }
     ensures none { IfNone result (gain_asked_in (map S.text words.now) ≡ None) }
 {
+    let (even, words) = cut_even(words);
     let Some((costs, words)) = costs_behind(words) else {
         return None;
     };
@@ -68,6 +70,7 @@ fn study_asked<S: AsStr>(words: &[S], room: u32) -> Option<(Study, &[S], &[S])>
         held,
         limits,
         costs,
+        even,
     };
     Some((study, waits, stores))
 }
@@ -77,7 +80,7 @@ fn study_asked<S: AsStr>(words: &[S], room: u32) -> Option<(Study, &[S], &[S])>
 #[tactic(auto, using(crate::proofs::Waiting::are_asked, crate::proofs::Waiting::no_waits, crate::proofs::Waiting::no_stores))]
 fn waits_asked<S: AsStr>(words: &[S]) -> Option<(u32, bool, &[S], &[S])>
     ensures asked { IfSome result (λ found. (limits : Bool) → asked_before_limits limits (map S.text words.now)
-        ≡ Some (record { cores = found.0; stores = or_both (map S.text found.3.now); held = found.1; addresses = addresses_of (map S.text found.2.now); limits = limits; costs = None })) }
+        ≡ Some (record { cores = found.0; stores = or_both (map S.text found.3.now); held = found.1; addresses = addresses_of (map S.text found.2.now); limits = limits; costs = None; even = false })) }
     ensures cores { IfSome result (λ found. 1 ≤ found.0) }
     ensures stores { IfSome result (λ found. list_all names_store (map S.text found.3.now) ≡ true) }
     ensures none { IfNone result ((limits : Bool) → asked_before_limits limits (map S.text words.now) ≡ None) }
@@ -87,6 +90,21 @@ fn waits_asked<S: AsStr>(words: &[S]) -> Option<(u32, bool, &[S], &[S])>
     let (held, rest) = cut_held(before);
     let (cores, stores) = stores_asked(rest)?;
     Some((cores, held, waits, stores))
+}
+
+/// Whether the last word is `--even-at`, and the words without it.
+fn cut_even<S: AsStr>(words: &[S]) -> (bool, &[S])
+    ensures even { result.0 ≡ asks_even (map S.text words.now) }
+    ensures words { map S.text result.1.now ≡ without_even (map S.text words.now) }
+{
+    let Some((last, before)) = words.split_last() else {
+        return (false, words);
+    };
+    if last.as_str() == "--even-at" {
+        (true, before)
+    } else {
+        (false, words)
+    }
 }
 
 /// Whether the last word is `--limits`, and the words without it.
