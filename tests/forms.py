@@ -53,6 +53,10 @@ GAIN = ("store plain cores 4 steps 108 gain 4.00 useful 432 lost 0 dropped 0 wai
         "0 false 0 buffer 0 "
         "nothomefree 0 noway 0 orbfull 0 orbbusy 0\n")
 LIMITS = "limit cores 1 forward 5 commit 5\nlimit cores 4 forward 3 commit 4\n"
+COSTED = GAIN.replace("useful 432", "order 400 busy 304 handling 80 memory 40 queue 8")
+EVENS = "even plain cores 4 at 3\neven plain cores 8 at -\n"
+EVENED = (GAIN + GAIN.replace("store", "held").replace("waiting 0", "waiting 0 held 2")
+          + GAIN.replace("cores 4", "cores 8"))
 STEPS = ("turn 0 0 go\nentry 0 start 0\nattempt 0 0 homefree\nhart 0 00000000 0\nturn 1 1 again NoWay\nturn 2 0 over "
          "done 1\n"
          "entry 0 store 00000040 4 00000001\nentry 0 commit\nattempt 0 -\nhart 0 -\norb 0\nline 0 0 0 00000040 M - "
@@ -107,6 +111,8 @@ TEXTS = [
     ("conflicts", ATTEMPTS + TOTAL),
     ("gains", GAIN + "store caches cores 1 full\n" + GAIN.replace("gain 4.00", "gain -")),
     ("gains", GAIN + LIMITS), ("gains", GAIN.replace("waiting 0", "waiting 0 held 3") + "store plain cores 8 full\n"),
+    ("gains", COSTED + COSTED.replace("store", "held").replace("waiting 0", "waiting 0 held 2") + LIMITS),
+    ("gains", EVENED + EVENS + EVENED + EVENS + LIMITS), ("gains", EVENED + "held plain cores 8 full\n" + EVENS),
     ("gains", "".join(GAIN.replace("plain", word)
                       for word in ("caches:sets=64,ways=4,buffer=16", "caches:line=64", "caches"))),
     ("dependences", DEPENDS.replace("caches", "caches:line=64,buffer=1").replace("never plain", "never caches:sets=1")),
@@ -131,6 +137,10 @@ REFUSED = [
     ("conflicts", ATTEMPTS.replace(" open", " open 9 by 0 core 0") + TOTAL), ("gains", "store caches cores 2 fast\n"),
     ("gains", GAIN + LIMITS.replace("forward 3", "forward -")), ("gains", GAIN + LIMITS + GAIN),
     ("gains", GAIN.replace("waiting 0", "held 3 waiting 0")), ("gains", GAIN.replace("waiting 0", "waiting 0 held -")),
+    *(("gains", wrong) for wrong in (
+        COSTED.replace("order 400 ", ""), COSTED.replace("order", "useful 3 order"), COSTED.replace(" queue 8", ""),
+        EVENS, GAIN + EVENS, EVENED + EVENS.replace("plain", "caches"), EVENED + EVENS.replace("at 3", "at x"),
+        EVENED + EVENS + EVENED, EVENS + EVENED, EVENED + LIMITS + EVENS, EVENED.replace("held plain", "even plain"))),
     *(("gains", GAIN.replace("plain", word))
       for word in ("plane", "caches:", "caches:sets=3", "caches:sets=4,sets=4", "plain:ways=2")),
     ("dependences", "never caches:ways=17 4\n"),
@@ -284,8 +294,15 @@ def by_hand() -> Iterator[Check]:
     gains = read_gains(GAIN + LIMITS)
     yield ("what limits say", differs([gains.limit(4), gains.limit(2), read_gains(GAIN).limits],
                                       [Limit(4, 3, 4), None, []]))
+    costed = read_gains(COSTED + EVENS.partition("\n")[0] + "\n")
+    yield "what turns cost", differs([costed.runs[0].order, costed.runs[0].queue, costed.runs[0].useful,
+                                      costed.evens[0].at], [400, 8, None, 3])
+    held = read_gains(EVENED)
+    yield "what held runs are", differs([there(held.of(word, 4)).held for word in ("plain", "held plain")], [None, 2])
     before = json.loads(to_json(GAIN))
-    del before["content"]["limits"]
+    del before["content"]["limits"], before["content"]["evens"]
+    for later in ("waits", "order", "busy", "handling", "memory", "queue"):
+        del before["content"]["runs"][0][later]
     yield "gains of before there were limits", differs(from_json(json.dumps(before)), GAIN)
     told = FORMS["dependences"][1](DEPENDS)
     said_of_dependences = (told.pairs[0].at.length, told.pairs[0].stored.of, told.over("caches").turns,

@@ -86,7 +86,7 @@ def bars(root: xml.Element) -> dict[str, list[tuple[str, float, float]]]:
     """Of each bar the heights of its parts, from below."""
     found: dict[str, list[tuple[str, float, float]]] = {}
     for group in root.iter(f"{SVG}g"):
-        named = re.fullmatch(r"(\w+-(?:caches|plain)-\d+)-(\w+)", group.get("id", ""))
+        named = re.fullmatch(r"(\w+-(?:held-)?(?:caches|plain)-\d+)-(\w+)", group.get("id", ""))
         if named:
             heights = [float(point.split()[-1])
                        for point in re.findall(r"[ML] ([-\d.]+ [-\d.]+)", there(group.find(f"{SVG}path")).get("d", ""))]
@@ -100,7 +100,7 @@ def hatches(root: xml.Element) -> dict[str, str]:
              for one in root.iter(f"{SVG}pattern")}
     found = {}
     for group in root.iter(f"{SVG}g"):
-        named = re.fullmatch(r"\w+-(?:caches|plain)-\d+-(\w+)", group.get("id", ""))
+        named = re.fullmatch(r"\w+-(?:held-)?(?:caches|plain)-\d+-(\w+)", group.get("id", ""))
         if named:
             fill = there(re.match(r"fill: ([^;]+)", there(group.find(f"{SVG}path")).get("style", "")))
             found[named[1]] = lines.get(fill[1], "")
@@ -205,6 +205,37 @@ def held(folder: str) -> Iterator[Check]:
     yield "held steps are explained", None if "held at a load that waits" in texts else f"{texts}"
 
 
+def costed(folder: str) -> Iterator[Check]:
+    """What turns cost are parts of the bar, and a held run has a bar of its own. The lines are what
+    `gain 2 caches --held --costs bus=10` prints of examples/recurrence.image."""
+    rest = "idle 28 restarts 0 true 0 silent 0 false 0 buffer 0 nothomefree 0 noway 0 orbfull 0 orbbusy 0\n"
+    lines = ("store caches cores 2 steps 643 gain 0.84 order 236 busy 196 handling 408 memory 280 queue 0 lost 364 "
+             "dropped 0 waiting 0 " + rest.replace("28", "38").replace("restarts 0 true 0", "restarts 13 true 13")
+             + "held caches cores 2 steps 410 gain 1.32 order 236 busy 196 handling 308 memory 270 queue 0 lost 0 "
+             "dropped 0 waiting 0 held 18 " + rest)
+    path = Path(folder, "costed.txt")
+    path.write_text(lines)
+    table = list(csv.DictReader(io.StringIO(plot("--csv", f"one={path}")[0])))
+    yield "the columns of what turns cost", differs(
+        [(row["waits"], row["order"], row["busy"], row["useful"], row["held"]) for row in table],
+        [("0", "236", "196", "", ""), ("1", "236", "196", "", "18")])
+    out, errors, status = plot(f"one={path}")
+    if "is not installed" in errors:
+        return
+    yield "a plot of what turns cost", None if (errors, status) == ("", 0) else f"{errors!r}, {status}"
+    root = xml.fromstring(out)
+    high = {name: {part: round(1000 * (end - start) / sum(most - least for _, least, most in parts))
+                   for part, start, end in parts} for name, parts in bars(root).items()}
+    yield "the parts of bars where turns cost", differs(high, {
+        "one-caches-2": {"busy": 152, "handling": 317, "memory": 218, "true": 283, "idle": 30},
+        "one-held-caches-2": {"busy": 239, "handling": 376, "memory": 329, "held": 22, "idle": 34}})
+    texts = " ".join("".join(text.itertext()).strip() for text in root.iter(f"{SVG}text"))
+    yield ("no bar says that turns cost nothing",
+           None if "what turns cost" in texts and "no latency" not in texts else texts)
+    looks = hatches(root)
+    yield "what turns cost by no colour alone", None if len(set(looks.values())) == len(looks) else f"{looks}"
+
+
 # Of own_counters the limits of 1 and of 4 cores
 LIMITS = "limit cores 1 forward 464 commit 464\nlimit cores 4 forward 58 commit 116\n"
 
@@ -282,7 +313,7 @@ def main() -> int:
     with tempfile.TemporaryDirectory() as folder:
         words = list(files(folder))
         script.run(partial(plots, words), partial(tables, words, folder), partial(many, folder),
-                   partial(held, folder), partial(times, folder), partial(depends, folder))
+                   partial(held, folder), partial(costed, folder), partial(times, folder), partial(depends, folder))
     return script.ended()
 
 

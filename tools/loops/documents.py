@@ -24,7 +24,7 @@ from .stores import is_store
 
 VERSION = 1
 # The fields that documents of before may lack
-LATER = {"limits", "attempts"}
+LATER = {"limits", "attempts", "evens", "waits", "order", "busy", "handling", "memory", "queue"}
 SCHEMA = Path(__file__).with_name("schema.json")
 FORMS: dict[str, tuple[type, Callable[[str], Any]]] = {
     "image": (Image, read_image), "traced": (Traced, read_traced), "output": (Output, read_output),

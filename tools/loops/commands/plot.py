@@ -4,7 +4,7 @@ need of one another, from what `./depends CORES` printed. The plot is SVG on sta
 Usage: tools/plot [--csv] [--sizes | --times] [--images FOLDER] [NAME=FILE ..] > GAINS.svg
 
 Each FILE has the lines of one loop, called NAME, or without `NAME=` after the file; without a FILE standard input is
-read. --csv writes a row for each line in the place of the plot, of `depends` for each line `dep`. --sizes draws what
+read. --csv writes a row for each run in the place of the plot, of `depends` for each line `dep`. --sizes draws what
 loops gain by the size of the caches, of lines over several stores. --times draws the time of each run in hundredths of
 the loop on one core, and what its dependences allow, of lines of `gain --limits`. Where FOLDER has NAME.image, its
 remarks name variables and lines of dependences. The same lines give the same bytes. The plot needs Debian's

@@ -23,10 +23,13 @@ MOST_COLUMNS, PANEL_WIDTH, PANEL_HEIGHT = 3, 3.1, 1.8
 WIDTH, GAP, INK, PALE = 0.88, 0.04, "#1d2733", "#6b7785"
 # So many letters of the note fit in an inch, and so high is a line of it.
 LETTERS, NOTE_LINE = 21, 0.12
-NOTE = ("Each bar is all steps of all cores of a run at even speed, one instruction a step and no latency; above it "
+NOTE = ("Each bar is all steps of all cores of a run at even speed, one instruction a step and {pace}; above it "
         "stands the gain over one core.\n"
-        "{}, below them the cores. Lost steps are shared out over the kinds by their violations.")
-SIGNS = {"caches": "c: over caches", "plain": "p: over a plain store of bytes"}
+        "{stores}, below them the cores. Lost steps are shared out over the kinds by their violations.")
+# How fast turns are, by whether they cost anything
+PACES = {False: "no latency", True: "what turns cost"}
+SIGNS = {"caches": "c: over caches", "plain": "p: over a plain store of bytes", "held caches": "hc: held over caches",
+         "held plain": "hp: held over a plain store"}
 STYLE = {"svg.fonttype": "none", "text.parse_math": False, "svg.hashsalt": "gain", "font.size": 7.0,
          "hatch.linewidth": 0.5, "hatch.color": PALE, "text.color": INK,
          "axes.edgecolor": PALE, "xtick.color": INK, "ytick.color": PALE, "font.family": "sans-serif",
@@ -64,7 +67,7 @@ class Stores:
     """The stores of all loops, in the order in which they come: where their bars stand, and the sign below each."""
 
     def __init__(self, loops: list[Loop]) -> None:
-        words = list(dict.fromkeys(run.store for loop in loops for run in loop.gains.runs))
+        words = list(dict.fromkeys(run.word for loop in loops for run in loop.gains.runs))
         numbered = [word for word in words if word not in SIGNS]
         self.words = [*USUAL] if set(words) <= set(USUAL) else words
         self.gap = min(GAP, WIDTH / len(self.words) / 4)
@@ -90,20 +93,20 @@ def bar(axes: Axes, loop: Loop, run: Gain, x: float, stores: Stores, scale: Scal
     for part, high in parts:
         drawn = axes.bar(x, high, stores.wide, base, color=part.colour, hatch=part.hatch, edgecolor=PALE,
                          linewidth=0.5)
-        drawn[0].set_gid(f"{loop.name}-{run.store}-{run.cores}-{part.name}")
+        drawn[0].set_gid(f"{loop.name}-{run.word.replace(' ', '-')}-{run.cores}-{part.name}")
         base += high
     size = 6.2 if len(stores.words) < 6 else 5.0
     axes.text(x, base + 0.03 * top, scale.said(loop, run), ha="center", va="bottom", size=size,
               rotation=90 if run.full or stores.are_many() else 0,
-              weight="bold" if run.store == "caches" else "normal")
-    axes.text(x, -0.04 * top, stores.sign(run.store), ha="center", va="top", size=6.2, color=PALE)
+              weight="bold" if run.word == "caches" else "normal")
+    axes.text(x, -0.04 * top, stores.sign(run.word), ha="center", va="top", size=6.2, color=PALE)
 
 
 def panel(axes: Axes, loop: Loop, stores: Stores, scale: Scale) -> None:
     """The bars of a loop."""
     cores, top = sorted({run.cores for run in loop.gains.runs}), scale.top(loop)
     for run in loop.gains.runs:
-        bar(axes, loop, run, cores.index(run.cores) + stores.place(run.store), stores, scale)
+        bar(axes, loop, run, cores.index(run.cores) + stores.place(run.word), stores, scale)
     for place, count in enumerate(cores):
         scale.mark(axes, loop, count, place)
     axes.set_title(loop.name, size=8.5, weight="bold", loc="left", pad=20 if stores.are_many() else 15)
@@ -116,9 +119,9 @@ def panel(axes: Axes, loop: Loop, stores: Stores, scale: Scale) -> None:
     axes.spines[["top", "right"]].set_visible(False)
 
 
-def noted(stores: Stores, scale: Scale, columns: int) -> str:
+def noted(stores: Stores, scale: Scale, columns: int, are_costed: bool) -> str:
     """The note below so many columns of panels, in lines that fit."""
-    note = scale.note.format(", ".join(stores.says.values()))
+    note = scale.note.format(stores=", ".join(stores.says.values()), pace=PACES[are_costed])
     return "\n".join(textwrap.fill(line, int(columns * PANEL_WIDTH * LETTERS), break_on_hyphens=False)
                      for line in note.split("\n"))
 
@@ -131,7 +134,8 @@ def drawn(loops: list[Loop], scale: Scale = Scale()) -> str:
     stores = Stores(loops)
     with matplotlib.rc_context(STYLE):
         columns = min(MOST_COLUMNS, max(2, len(loops)))
-        note = noted(stores, scale, columns)
+        note = noted(stores, scale, columns,
+                     any(run.order is not None for loop in loops for run in loop.gains.runs))
         more = NOTE_LINE * (note.count("\n") - 1)
         rows = -(-len(loops) // columns)
         occur = {part for loop in loops for run in loop.gains.runs if not run.full for part, _ in shares(run)}

@@ -43,7 +43,7 @@ def panel(axes: Axes, loop: Loop, machines: list[Machine], most: float) -> None:
     places = {one.lines: place for place, one in enumerate(machines)}
     for (colour, mark, dashes), count in zip(LOOKS, reversed(cores)):
         runs = {Machine.of_word(run.store).lines: run for run in loop.gains.runs
-                if run.cores == count and run.store != "plain"}
+                if run.cores == count and run.word == run.store != "plain"}
         known = [(places[lines], run.gain) for lines, run in sorted(runs.items()) if run.gain is not None]
         drawn, = axes.plot(*zip(*known), color=colour, marker=mark, linestyle=dashes, markersize=3.5, linewidth=1.1,
                            label=counted(count, "core"))

@@ -5,9 +5,11 @@ import io
 from dataclasses import fields
 
 from loops import Dependences, Joined
-from loops.gains import Gain, Gains
+from loops.gains import COSTED, Gain, Gains
 
 NAMES = [one.name for one in fields(Gain)]
+# The columns that are there where some run has them, and those of yes and no
+WHERE_THERE, ARE_ASKED = {"waits", "held", *COSTED}, ("full", "waits")
 PAIR_NAMES = ("store load times least_distance most_distance at bytes first_causer first_victim stored stored_of "
               "loaded loaded_of").split()
 
@@ -16,14 +18,20 @@ def word_of(run: Gain, name: str) -> str:
     value: str | float | None = getattr(run, name)
     if value is None:
         return ""
-    return f"{value:.2f}" if name == "gain" else str(int(value)) if name == "full" else str(value)
+    return f"{value:.2f}" if name == "gain" else str(int(value)) if name in ARE_ASKED else str(value)
+
+
+def has(run: Gain, name: str) -> bool:
+    """The run has a figure of this name, or is so."""
+    value: bool | float | None = getattr(run, name)
+    return value is not None and value is not False
 
 
 def table(named: list[tuple[str, Gains]]) -> str:
-    """The rows, below a row of names. What a run hasn't is empty; full is 0 or 1. `held` is there where some run has
-    it."""
-    holds = any(run.held is not None for _, gains in named for run in gains.runs)
-    names = [name for name in NAMES if holds or name != "held"]
+    """The rows, below a row of names. What a run hasn't is empty; full and waits are 0 or 1. waits, held and what turns
+    cost are there where some run has them."""
+    names = [name for name in NAMES
+             if name not in WHERE_THERE or any(has(run, name) for _, gains in named for run in gains.runs)]
     made = io.StringIO()
     rows = csv.writer(made, lineterminator="\n")
     rows.writerow(["loop", *names])

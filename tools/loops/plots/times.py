@@ -14,9 +14,9 @@ MARKS = {"commit": "-", "forward": ":"}
 
 class Times(Scale):
     """Bars as high as their run's steps to those on one core, below that number."""
-    note = ("Each bar is the time of a run at even speed, one instruction a step and no latency, in hundredths of the "
+    note = ("Each bar is the time of a run at even speed, one instruction a step and {pace}, in hundredths of the "
             "loop on one core; its parts are where the steps of all cores went.\n"
-            "{}, below them the cores. Lost steps are shared out over the kinds by their violations. Lines: what "
+            "{stores}, below them the cores. Lost steps are shared out over the kinds by their violations. Lines: what "
             "dependences allow, where a load waits for the commit (whole) or for the store (dotted).")
 
     def height(self, loop: Loop, run: Gain) -> float | None:
