@@ -234,6 +234,14 @@ def costed(folder: str) -> Iterator[Check]:
            None if "what turns cost" in texts and "no latency" not in texts else texts)
     looks = hatches(root)
     yield "what turns cost by no colour alone", None if len(set(looks.values())) == len(looks) else f"{looks}"
+    path.write_text(lines + LIMITS)
+    timed = xml.fromstring(plot("--times", f"one={path}")[0])
+    told = ["".join(text.itertext()).strip() for text in timed.iter(f"{SVG}text")]
+    # 643 and 410 of 236 steps
+    yield "hundredths of the loop in order", differs([text for text in told if text in ("272", "174")], ["272", "174"])
+    yield "and the note says so", None if "of the loop in order" in " ".join(told) else f"{told}"
+    yield "no line of a limit where turns cost", differs(
+        [one.get("id") for one in timed.iter(f"{SVG}g") if re.fullmatch(r"one-\d+-\w+", one.get("id", ""))], [])
 
 
 # Of own_counters the limits of 1 and of 4 cores

@@ -6,9 +6,10 @@ Usage: tools/plot [--csv] [--sizes | --times] [--images FOLDER] [NAME=FILE ..] >
 Each FILE has the lines of one loop, called NAME, or without `NAME=` after the file; without a FILE standard input is
 read. --csv writes a row for each run in the place of the plot, of `depends` for each line `dep`. --sizes draws what
 loops gain by the size of the caches, of lines over several stores. --times draws the time of each run in hundredths of
-the loop on one core, and what its dependences allow, of lines of `gain --limits`. Where FOLDER has NAME.image, its
-remarks name variables and lines of dependences. The same lines give the same bytes. The plot needs Debian's
-python3-matplotlib. What is no line of either program is refused with a line on standard error and status 2.
+the loop on one core, and what its dependences allow, of lines of `gain --limits`; of lines of `gain --costs`, in
+hundredths of the loop in order. Where FOLDER has NAME.image, its remarks name variables and lines of dependences. The
+same lines give the same bytes. The plot needs Debian's python3-matplotlib. What is no line of either program is refused
+with a line on standard error and status 2.
 """
 
 import argparse

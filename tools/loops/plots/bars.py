@@ -26,8 +26,9 @@ LETTERS, NOTE_LINE = 21, 0.12
 NOTE = ("Each bar is all steps of all cores of a run at even speed, one instruction a step and {pace}; above it "
         "stands the gain over one core.\n"
         "{stores}, below them the cores. Lost steps are shared out over the kinds by their violations.")
-# How fast turns are, by whether they cost anything
+# How fast turns are, and what a hundred hundredths are, by whether turns cost anything
 PACES = {False: "no latency", True: "what turns cost"}
+WHOLES = {False: "on one core", True: "in order"}
 SIGNS = {"caches": "c: over caches", "plain": "p: over a plain store of bytes", "held caches": "hc: held over caches",
          "held plain": "hp: held over a plain store"}
 STYLE = {"svg.fonttype": "none", "text.parse_math": False, "svg.hashsalt": "gain", "font.size": 7.0,
@@ -41,6 +42,11 @@ class Loop:
     """The runs of a loop, with its name."""
     name: str
     gains: Gains
+
+
+def is_costed(loop: Loop) -> bool:
+    """Turns cost something in some run of the loop."""
+    return any(run.order is not None for run in loop.gains.runs)
 
 
 class Scale:
@@ -121,7 +127,7 @@ def panel(axes: Axes, loop: Loop, stores: Stores, scale: Scale) -> None:
 
 def noted(stores: Stores, scale: Scale, columns: int, are_costed: bool) -> str:
     """The note below so many columns of panels, in lines that fit."""
-    note = scale.note.format(stores=", ".join(stores.says.values()), pace=PACES[are_costed])
+    note = scale.note.format(stores=", ".join(stores.says.values()), pace=PACES[are_costed], whole=WHOLES[are_costed])
     return "\n".join(textwrap.fill(line, int(columns * PANEL_WIDTH * LETTERS), break_on_hyphens=False)
                      for line in note.split("\n"))
 
@@ -134,8 +140,7 @@ def drawn(loops: list[Loop], scale: Scale = Scale()) -> str:
     stores = Stores(loops)
     with matplotlib.rc_context(STYLE):
         columns = min(MOST_COLUMNS, max(2, len(loops)))
-        note = noted(stores, scale, columns,
-                     any(run.order is not None for loop in loops for run in loop.gains.runs))
+        note = noted(stores, scale, columns, any(map(is_costed, loops)))
         more = NOTE_LINE * (note.count("\n") - 1)
         rows = -(-len(loops) // columns)
         occur = {part for loop in loops for run in loop.gains.runs if not run.full for part, _ in shares(run)}
