@@ -54,6 +54,12 @@ ALLOWED = [
     (8, 8, " Its dependences allow 1.50 on 2 cores."),
     (9, 9, ""),         # 1.33, less than a fifth above 1.20
 ]
+# What `gain --even-at` says of two cores, and what is told then.
+EVENS = [("3", " costs 3 steps more, it takes fewer steps than the loop in order; at higher costs, up to 60, it "
+               "doesn't."),
+         ("1", " costs 1 step more, it takes fewer"),
+         ("60", " costs 60 steps more, it takes fewer steps than the loop in order, and no higher cost was tried."),
+         ("-", " costs, up to 60 steps, it takes no fewer steps than the loop in order.")]
 LARGER = " With 64 sets of 4 ways with lines of 16 bytes, and buffers of 16 lines, it gains {}"
 SAID = ("waits gains 1.20 on 2 cores at even speed: 10 steps in place of 12. Over a plain store of bytes it gains "
         f"1.20. {CACHES} Of all steps 60 % are useful, 20 % are lost and "
@@ -211,6 +217,14 @@ def by_hand(folder: Path | str) -> Results:
         got = verdict(folder, image, "--cores", "2")
         yield (f"what its dependences allow: {forward} and {commit} steps",
                None if got == (SAID.replace(" are idle.", f" are idle.{said}"), "", 0) else f"got {got}")
+    for at, said in EVENS:
+        stub_gain(folder, GAIN)
+        asked = Path(folder, "gain").read_text().replace("case ", (
+            "[ \"$*\" != '2 caches --even-at' ] || { cat <<'END'\n" + (ONE + TWO).format("caches", "caches")
+            + f"even caches cores 1 at -\neven caches cores 2 at {at}\nEND\nexit 0; }}\ncase "), 1)
+        Path(folder, "gain").write_text(asked)
+        got = verdict(folder, image, "--cores", "2", "--even-at")
+        yield f"even at {at}", None if said in got[0] and got[1:] == ("", 0) else f"got {got}"
     stub_gain(folder, GAIN.replace(ONE.format("caches"), "store caches cores 1 full\n").replace("gain 1.20", "gain -")
               + LIMITS.format(8, 10))
     got = verdict(folder, image, "--cores", "2", "--min-gain", "1.5")
@@ -429,6 +443,8 @@ def examples(folder: Path | str, command: list[str]) -> Results:
         missing = [words for words in [*wanted, *also] if words not in got[0]]
         yield (f"the verdict on {name}", None if not missing and got[1:] == ("", 0)
                else f"got {got}, which lacks {missing}")
+    got = verdict(folder, ROOT / "examples" / "histogram.image", "--even-at")
+    yield "where communication costs too much", None if "line costs 3 steps more, it takes fewer" in got[0] else got[0]
     got = verdict(folder, ROOT / "examples" / "own_counters.image", "--min-gain", "2")
     yield ("past the least gain", None if got[2] == 5 and got[0].endswith("it gains 1.08, less than 2.00.")
            else f"got {got}")

@@ -102,6 +102,10 @@ class Gains:
         """The run over a store on so many cores, where there is one."""
         return next((run for run in self.runs if (run.word, run.cores) == (store, cores)), None)
 
+    def even(self, store: str, cores: int) -> Even | None:
+        """Up to which cost a store and so many cores gain, where it is told."""
+        return next((one for one in self.evens if (one.store, one.cores) == (store, cores)), None)
+
     def limit(self, cores: int) -> Limit | None:
         """The limits of so many cores, where they are told."""
         return next((one for one in self.limits if one.cores == cores), None)

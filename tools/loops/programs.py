@@ -185,12 +185,13 @@ class Programs:
         return iter_conflicts(iter_call(self.why_command or self.folder / "why", words, source, (0,)))
 
     def gain(self, image: Image | str, cores: int, *stores: str, limits: bool = False,
-             waits: Sequence[int] = ()) -> Gains:
+             waits: Sequence[int] = (), evens: bool = False) -> Gains:
         """What the loop gains on up to so many cores over these stores; without any over `caches` and `plain`. With
         `limits` also what its dependences allow. The loads at the addresses of `waits` wait until their epoch is the
-        first."""
+        first. With `evens` also up to which cost of each action it gains."""
         words = [str(cores), *stores, *["--limits"] * limits]
         words += ["--wait", *(f"{pc:08x}" for pc in waits)] if waits else []
+        words += ["--even-at"] * evens
         return read_gains(call(self.folder / "gain", words, text_of(image)))
 
     def has_depends(self) -> bool:

@@ -1,7 +1,8 @@
 """Says in English what a loop gains at even speed on so many cores, what holds it back, at which lines of the source,
 and what usually helps.
 
-Usage: tools/verdict IMAGE [--cores N] [--store STORE] [--max-lost PERCENT] [--min-gain G] [--build] [-- WORD ..]
+Usage: tools/verdict IMAGE [--cores N] [--store STORE] [--even-at] [--max-lost PERCENT] [--min-gain G] [--build]
+[-- WORD ..]
 
 What it gains is what `gain` says, of one instruction a step on each core and no latency; what holds it back is what
 `why` says of the runs that `replay even plain N` and `replay even STORE N` print: over the plain store first, since
@@ -9,6 +10,8 @@ waiting for the caches may hide what epochs need of one another. STORE is the ca
 image's version where it isn't said. Where large caches gain something else it says so, and where the plain store gains
 and they don't, which are the first to gain as much. Where its dependences allow a fifth more than it gains it says so.
 Where it loses steps, it says what it gains where one of the loads that lost most waits until its epoch is the first.
+With --even-at it says up to which cost of communication it takes fewer steps than the loop in order, which takes `gain`
+up to 61 runs.
 Where `depends` is built it says whether anything can roll back at all, on any schedule, and what an epoch needs
 earliest of another. Where neighbours of an array share lines it proposes --chunk of the tool that made the image,
 tools/image-of or tools/loops-of; the words behind `--` are those by which it did, and with them it measures what that
@@ -129,8 +132,10 @@ def findings(programs: Programs, given: argparse.Namespace, words: list[str]) ->
     flow = programs.depends(text, image.most_cores, *stores) if programs.has_depends() else None
     sized = Sized(large, there(gains.of(large.word, cores))) if large else None
     sizes = sizes_of(programs, text, store.machine, sized, caches, plain) if sized else None
+    even = programs.gain(text, cores, store.word, evens=True).even(store.word, cores) if given.even_at else None
     return Findings(shown(given.image.stem), store, one, caches, plain, over_caches.losses, over_plain, chunk, tried,
-                    flow, sizes, gains.allowed(cores), waits_of(programs, text, store, caches, over_caches.losses))
+                    flow, sizes, gains.allowed(cores), waits_of(programs, text, store, caches, over_caches.losses),
+                    even)
 
 
 def options_of(words: list[str]) -> tuple[argparse.Namespace, list[str]]:
@@ -144,6 +149,8 @@ def options_of(words: list[str]) -> tuple[argparse.Namespace, list[str]]:
     parser.add_argument("image", type=Path, metavar="IMAGE",
                         help="the text of the loop; made with -g it names lines of the source")
     parser.add_argument("--cores", type=int, default=4, metavar="N", help="1 to 16, in version 1 of an image to 8 (4)")
+    parser.add_argument("--even-at", action="store_true",
+                        help="up to which cost of each action the loop gains against the loop in order")
     parser.add_argument("--max-lost", type=float, metavar="PERCENT",
                         help="the status is 5 where more of the steps of all cores are lost")
     parser.add_argument("--min-gain", type=float, metavar="G", help="the status is 5 where the loop gains less")

@@ -3,7 +3,7 @@
 from dataclasses import dataclass, field
 
 from loops import Dependences, Report, Violation
-from loops.gains import Gain
+from loops.gains import Even, Gain
 from loops.images import there
 from loops.pictures.attempts import Blamed
 from loops.pictures.words import advice, listed as places_listed, plural
@@ -18,6 +18,8 @@ from .waits import Waited
 MOST_PAIRS = 3
 # What dependences allow is told where it is so many times what the loop gains.
 WELL_ABOVE = 1.2
+# The highest cost of an action that `gain --even-at` tries
+MOST_COST = 60
 # A part of the steps is told as holding a loop back where it has so many hundredths of them.
 LEAST = 5
 KINDS = {"true": "true sharing", "silent": "silent stores", "false": "false sharing", "buffer": "full buffers",
@@ -49,6 +51,7 @@ class Findings:
     # what its dependences allow, where loads wait for commits, and where for stores
     allowed: tuple[float, float] | None = None
     waits: list[Waited] = field(default_factory=list)       # over these caches, a load each
+    even: Even | None = None            # over these caches, where it is asked for
 
 
 def percent(part: int, run: Gain) -> float:
@@ -157,6 +160,18 @@ def wait_words(found: Findings) -> str:
     told = [f"{one.run.gain:.2f} at {at(found.over_caches, one.load)}" for one in found.waits
             if one.run.gain is not None]
     return f" Where one load waits until its epoch is the first, it gains {listed(told)}." if told else ""
+
+
+def even_words(found: Findings) -> str:
+    """Up to which cost of communication the loop takes fewer steps than in order."""
+    if found.even is None:
+        return ""
+    at, each = found.even.at, "each miss, upgrade, begin, restart, commit and published line"
+    if at is None:
+        return f" Whatever {each} costs, up to {MOST_COST} steps, it takes no fewer steps than the loop in order."
+    told = f" Where {each} costs {plural(at, 'step')} more, it takes fewer steps than the loop in order"
+    return told + (f"; at higher costs, up to {MOST_COST}, it doesn't." if at < MOST_COST
+                   else ", and no higher cost was tried.")
 
 
 # --- What holds it back ------------------------------------------------------
@@ -280,7 +295,7 @@ def paragraph(found: Findings) -> str:
     caches = holding(found.caches, found.over_caches, before, chunk_words(found))
     head = gained(found) + ("" if found.flow is None
                             else f" {flow(found.over_caches.image, found.flow, found.caches.cores)}")
-    head += allowed_words(found) + wait_words(found)
+    head += allowed_words(found) + wait_words(found) + even_words(found)
     if not plain and not caches:
         return f"{head} Nothing holds it back."
     told = [f"What holds it back over a plain store already: {' '.join(plain)}"] if plain else []
