@@ -4,7 +4,7 @@
 mod rows;
 
 use rows::{IMMEDIATES, JUMPS_AND_UPPER_IMMEDIATES, LOADS_AND_STORES, REGISTERS};
-use rv32_decode::{Instr, Refused, Register, decode};
+use rv32_decode::{Destination, Instr, Refused, Register, decode};
 use std::process::Abort;
 
 /// The number of a register.
@@ -12,47 +12,52 @@ fn x(register: Register) -> u32 {
     u32::from(register.number())
 }
 
+/// The number of a destination.
+fn d(destination: Destination) -> u32 {
+    x(destination.register())
+}
+
 /// The name of an instruction, and its fields in order, with 0 in the place of those that it lacks.
 #[rattlefmt::skip]
 fn shown(instr: Instr) -> (&'static str, [u32; 3]) {
     match instr {
-        Instr::Lui { rd, imm } => ("lui", [x(rd), imm, 0]),
-        Instr::Auipc { rd, imm } => ("auipc", [x(rd), imm, 0]),
-        Instr::Jal { rd, offset } => ("jal", [x(rd), offset, 0]),
-        Instr::Jalr { rd, rs1, imm } => ("jalr", [x(rd), x(rs1), imm]),
-        Instr::Beq { rs1, rs2, offset } => ("beq", [x(rs1), x(rs2), offset]),
-        Instr::Bne { rs1, rs2, offset } => ("bne", [x(rs1), x(rs2), offset]),
-        Instr::Blt { rs1, rs2, offset } => ("blt", [x(rs1), x(rs2), offset]),
-        Instr::Bge { rs1, rs2, offset } => ("bge", [x(rs1), x(rs2), offset]),
-        Instr::Bltu { rs1, rs2, offset } => ("bltu", [x(rs1), x(rs2), offset]),
-        Instr::Bgeu { rs1, rs2, offset } => ("bgeu", [x(rs1), x(rs2), offset]),
-        Instr::Lb { rd, rs1, imm } => ("lb", [x(rd), x(rs1), imm]),
-        Instr::Lh { rd, rs1, imm } => ("lh", [x(rd), x(rs1), imm]),
-        Instr::Lw { rd, rs1, imm } => ("lw", [x(rd), x(rs1), imm]),
-        Instr::Lbu { rd, rs1, imm } => ("lbu", [x(rd), x(rs1), imm]),
-        Instr::Lhu { rd, rs1, imm } => ("lhu", [x(rd), x(rs1), imm]),
+        Instr::Lui { rd, imm } => ("lui", [d(rd), imm, 0]),
+        Instr::Auipc { rd, imm } => ("auipc", [d(rd), imm, 0]),
+        Instr::Jal { rd, offset } => ("jal", [d(rd), offset.bytes(), 0]),
+        Instr::Jalr { rd, rs1, imm } => ("jalr", [d(rd), x(rs1), imm]),
+        Instr::Beq { rs1, rs2, offset } => ("beq", [x(rs1), x(rs2), offset.bytes()]),
+        Instr::Bne { rs1, rs2, offset } => ("bne", [x(rs1), x(rs2), offset.bytes()]),
+        Instr::Blt { rs1, rs2, offset } => ("blt", [x(rs1), x(rs2), offset.bytes()]),
+        Instr::Bge { rs1, rs2, offset } => ("bge", [x(rs1), x(rs2), offset.bytes()]),
+        Instr::Bltu { rs1, rs2, offset } => ("bltu", [x(rs1), x(rs2), offset.bytes()]),
+        Instr::Bgeu { rs1, rs2, offset } => ("bgeu", [x(rs1), x(rs2), offset.bytes()]),
+        Instr::Lb { rd, rs1, imm } => ("lb", [d(rd), x(rs1), imm]),
+        Instr::Lh { rd, rs1, imm } => ("lh", [d(rd), x(rs1), imm]),
+        Instr::Lw { rd, rs1, imm } => ("lw", [d(rd), x(rs1), imm]),
+        Instr::Lbu { rd, rs1, imm } => ("lbu", [d(rd), x(rs1), imm]),
+        Instr::Lhu { rd, rs1, imm } => ("lhu", [d(rd), x(rs1), imm]),
         Instr::Sb { rs1, rs2, imm } => ("sb", [x(rs1), x(rs2), imm]),
         Instr::Sh { rs1, rs2, imm } => ("sh", [x(rs1), x(rs2), imm]),
         Instr::Sw { rs1, rs2, imm } => ("sw", [x(rs1), x(rs2), imm]),
-        Instr::Addi { rd, rs1, imm } => ("addi", [x(rd), x(rs1), imm]),
-        Instr::Slti { rd, rs1, imm } => ("slti", [x(rd), x(rs1), imm]),
-        Instr::Sltiu { rd, rs1, imm } => ("sltiu", [x(rd), x(rs1), imm]),
-        Instr::Xori { rd, rs1, imm } => ("xori", [x(rd), x(rs1), imm]),
-        Instr::Ori { rd, rs1, imm } => ("ori", [x(rd), x(rs1), imm]),
-        Instr::Andi { rd, rs1, imm } => ("andi", [x(rd), x(rs1), imm]),
-        Instr::Slli { rd, rs1, amount } => ("slli", [x(rd), x(rs1), amount.bits() as u32]),
-        Instr::Srli { rd, rs1, amount } => ("srli", [x(rd), x(rs1), amount.bits() as u32]),
-        Instr::Srai { rd, rs1, amount } => ("srai", [x(rd), x(rs1), amount.bits() as u32]),
-        Instr::Add { rd, rs1, rs2 } => ("add", [x(rd), x(rs1), x(rs2)]),
-        Instr::Sub { rd, rs1, rs2 } => ("sub", [x(rd), x(rs1), x(rs2)]),
-        Instr::Sll { rd, rs1, rs2 } => ("sll", [x(rd), x(rs1), x(rs2)]),
-        Instr::Slt { rd, rs1, rs2 } => ("slt", [x(rd), x(rs1), x(rs2)]),
-        Instr::Sltu { rd, rs1, rs2 } => ("sltu", [x(rd), x(rs1), x(rs2)]),
-        Instr::Xor { rd, rs1, rs2 } => ("xor", [x(rd), x(rs1), x(rs2)]),
-        Instr::Srl { rd, rs1, rs2 } => ("srl", [x(rd), x(rs1), x(rs2)]),
-        Instr::Sra { rd, rs1, rs2 } => ("sra", [x(rd), x(rs1), x(rs2)]),
-        Instr::Or { rd, rs1, rs2 } => ("or", [x(rd), x(rs1), x(rs2)]),
-        Instr::And { rd, rs1, rs2 } => ("and", [x(rd), x(rs1), x(rs2)]),
+        Instr::Addi { rd, rs1, imm } => ("addi", [d(rd), x(rs1), imm]),
+        Instr::Slti { rd, rs1, imm } => ("slti", [d(rd), x(rs1), imm]),
+        Instr::Sltiu { rd, rs1, imm } => ("sltiu", [d(rd), x(rs1), imm]),
+        Instr::Xori { rd, rs1, imm } => ("xori", [d(rd), x(rs1), imm]),
+        Instr::Ori { rd, rs1, imm } => ("ori", [d(rd), x(rs1), imm]),
+        Instr::Andi { rd, rs1, imm } => ("andi", [d(rd), x(rs1), imm]),
+        Instr::Slli { rd, rs1, amount } => ("slli", [d(rd), x(rs1), amount.bits() as u32]),
+        Instr::Srli { rd, rs1, amount } => ("srli", [d(rd), x(rs1), amount.bits() as u32]),
+        Instr::Srai { rd, rs1, amount } => ("srai", [d(rd), x(rs1), amount.bits() as u32]),
+        Instr::Add { rd, rs1, rs2 } => ("add", [d(rd), x(rs1), x(rs2)]),
+        Instr::Sub { rd, rs1, rs2 } => ("sub", [d(rd), x(rs1), x(rs2)]),
+        Instr::Sll { rd, rs1, rs2 } => ("sll", [d(rd), x(rs1), x(rs2)]),
+        Instr::Slt { rd, rs1, rs2 } => ("slt", [d(rd), x(rs1), x(rs2)]),
+        Instr::Sltu { rd, rs1, rs2 } => ("sltu", [d(rd), x(rs1), x(rs2)]),
+        Instr::Xor { rd, rs1, rs2 } => ("xor", [d(rd), x(rs1), x(rs2)]),
+        Instr::Srl { rd, rs1, rs2 } => ("srl", [d(rd), x(rs1), x(rs2)]),
+        Instr::Sra { rd, rs1, rs2 } => ("sra", [d(rd), x(rs1), x(rs2)]),
+        Instr::Or { rd, rs1, rs2 } => ("or", [d(rd), x(rs1), x(rs2)]),
+        Instr::And { rd, rs1, rs2 } => ("and", [d(rd), x(rs1), x(rs2)]),
         Instr::Fence => ("fence", [0, 0, 0]),
     }
 }

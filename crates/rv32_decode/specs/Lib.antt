@@ -3,6 +3,6 @@ pub mod Word
 pub mod Table
 -- Words of contracts: Refused (the printed names).
 pub mod Refused
--- And the form in which instructions are run.
+-- And how destinations and offsets are kept.
 pub mod Destination
-pub mod Operations
+pub mod Offset

@@ -2,7 +2,7 @@ ghost use Rattle.std.specs.Prelude.{◌≡◌, ◌<◌, ◌^◌};
 ghost use Rattle.rv32_decode.specs.Word as field;
 ghost use Rattle.rv32_decode.specs.Table.{meaning_of};
 
-use crate::fields::{Register, ShiftAmount};
+use crate::fields::{Destination, Offset, Register, ShiftAmount};
 use crate::instr::Instr;
 use crate::refused::Refused;
 
@@ -54,7 +54,7 @@ pub fn decode(word: u32) -> Result<Instr, Refused>
         }),
         JAL => Ok(Instr::Jal {
             rd: rd(word),
-            offset: j_immediate(word),
+            offset: Offset::new(j_immediate(word)),
         }),
         JALR => jump_register(word),
         BRANCH => branch(word),
@@ -85,7 +85,7 @@ fn branch(word: u32) -> Result<Instr, Refused>
     requires { field.opcode word ≡ BRANCH }
     ensures { result ≡ meaning_of word }
 {
-    let (rs1, rs2, offset) = (rs1(word), rs2(word), b_immediate(word));
+    let (rs1, rs2, offset) = (rs1(word), rs2(word), Offset::new(b_immediate(word)));
     match funct3(word) {
         0b000 => Ok(Instr::Beq { rs1, rs2, offset }),
         0b001 => Ok(Instr::Bne { rs1, rs2, offset }),
@@ -192,7 +192,7 @@ fn system(word: u32) -> Result<Instr, Refused>
 }
 
 /// The fields of an instruction of format I.
-fn i_fields(word: u32) -> (Register, Register, u32)
+fn i_fields(word: u32) -> (Destination, Register, u32)
     ensures rd { result.0 ≡ field.rd word }
     ensures rs1 { result.1 ≡ field.rs1 word }
     ensures immediate { result.2 ≡ field.i_immediate word }
@@ -218,10 +218,10 @@ fn funct7(word: u32) -> u32
     word >> 25
 }
 
-fn rd(word: u32) -> Register
+fn rd(word: u32) -> Destination
     ensures { result ≡ field.rd word }
 {
-    Register::new((word >> 7 & 31) as u8)
+    Destination::new((word >> 7 & 31) as u8)
 }
 
 fn rs1(word: u32) -> Register

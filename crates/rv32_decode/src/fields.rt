@@ -1,5 +1,6 @@
-ghost use Rattle.std.specs.Prelude.{◌≡◌, ◌<◌};
-ghost use Rattle.rv32_decode.specs.Destination.{destination_of};
+ghost use Rattle.std.specs.Prelude.{◌≡◌, ◌<◌, ◌%◌};
+ghost use Rattle.rv32_decode.specs.Destination.{place_of};
+ghost use Rattle.rv32_decode.specs.Offset.{words_on};
 
 use std::marker::Model;
 
@@ -41,46 +42,113 @@ impl Register {
     }
 }
 
-/// The number of a register that keeps what is written to it, x1 to x31. Contracts see it as that number.
+/// The number of an integer register to which a result goes, x0 to x31. Contracts see it as that number.
+///
+/// It is kept as a place: a register's own number, and 32 for x0. What is written to x0 then goes where nothing reads it, and
+/// no write has to look for x0.
 #[derive(Clone, Copy)]
 pub struct Destination {
-    index: u8,
+    place: u8,
 }
 
 impl Model for Destination {
-    ghost use Rattle.std.specs.Prelude.{ℕ, ◌<◌};
+    ghost use Rattle.std.specs.Prelude.{ℕ, ◌<◌, ◌≤◌, ◌%◌};
+    ghost use Rattle.rv32_decode.specs.Destination.{place_of, place_back};
 
     ghost Value = { ℕ };
 
-    ghost view = { λ d. d.index };
+    ghost view = { λ d. d.place % 32 };
 
-    ghost invariant = { λ d. (0 < d.index) × (d.index < 32) };
+    ghost invariant = { λ d. (0 < d.place) × (d.place ≤ 32) };
 
-    ghost inverse = { λ n. record { index = n } };
+    ghost inverse = { λ n. record { place = place_of n } };
+
+    ghost inverse_ok = { λ d h i. record { place = place_back d.place h.0 h.1 i } };
 }
 
 impl Destination {
-    /// The register as a destination, and x1 in place of x0.
-    pub fn of(register: Register) -> Destination
-        ensures { result ≡ destination_of register }
+    /// The register of this number, which is below 32, as a destination.
+    pub fn new(number: u8) -> Destination
+        requires { number < 32 }
+        ensures { result ≡ number }
     {
         Destination {
-            index: if register.number == 0 {
-                1
-            } else {
-                register.number
-            },
+            place: if number == 0 { 32 } else { number },
         }
     }
 
-    /// Its number, 1 to 31.
-    #[inline]
-    pub fn number(self) -> u8
-        ensures value { result ≡ self }
-        ensures above { 0 < result }
-        ensures below { result < 32 }
+    /// The register.
+    pub fn register(self) -> Register
+        ensures { result ≡ self }
     {
-        self.index
+        Register::new(self.place % 32)
+    }
+
+    /// Its place, 1 to 32: its number, and 32 for x0.
+    #[inline]
+    pub fn place(self) -> u8
+        ensures { result ≡ place_of self }
+    {
+        self.place
+    }
+}
+
+/// How far a branch or a jump goes: bytes, of 32 bits, an even number. Contracts see it as that number.
+///
+/// It is kept as a number of words of 32 bits with a sign, from the word that follows on. Where the bytes are no whole words it is
+/// 2^30 more, which is farther than any code.
+#[derive(Clone, Copy)]
+pub struct Offset {
+    words: u32,
+}
+
+impl Model for Offset {
+    ghost use Rattle.std.specs.Prelude.{ℕ};
+    ghost use Rattle.rv32_decode.specs.Offset.{words_of, bytes_of, AreWords, words_back};
+
+    ghost Value = { ℕ };
+
+    ghost view = { λ o. bytes_of o.words };
+
+    ghost invariant = { λ o. AreWords o.words };
+
+    ghost inverse = { λ n. record { words = words_of n } };
+
+    ghost inverse_ok = { λ o h i. record { words = words_back o.words h i } };
+}
+
+impl Offset {
+    /// The offset of so many bytes.
+    pub fn new(bytes: u32) -> Offset
+        requires { bytes % 2 ≡ 0 }
+        ensures { result ≡ bytes }
+    {
+        let sign = if bytes < 1 << 31 { 0 } else { 3 << 30 };
+        let odd = if bytes % 4 == 0 { 0 } else { 1 << 30 };
+        Offset {
+            words: (bytes / 4 + sign).wrapping_add(odd).wrapping_sub(1),
+        }
+    }
+
+    /// How many bytes it is.
+    pub fn bytes(self) -> u32
+        ensures { result ≡ self }
+    {
+        let words = self.words.wrapping_add(1);
+        let odd = if words.wrapping_add(1 << 29) < 1 << 30 {
+            0
+        } else {
+            2
+        };
+        words.wrapping_mul(4) + odd
+    }
+
+    /// How many words it goes on from the word that follows, modulo 2^64; at least 2^29 - 1 where it is no whole words.
+    #[inline]
+    pub fn words_on(self) -> usize
+        ensures { result ≡ words_on self }
+    {
+        i64::from(self.words.cast_signed()).cast_unsigned() as usize
     }
 }
 

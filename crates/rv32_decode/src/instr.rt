@@ -1,4 +1,4 @@
-use crate::fields::{Register, ShiftAmount};
+use crate::fields::{Destination, Offset, Register, ShiftAmount};
 
 /// An instruction of RV32I. Immediates are sign-extended to 32 bits, and a branch's or a jump's `offset` is
 /// in bytes from the instruction's own address.
@@ -8,22 +8,22 @@ use crate::fields::{Register, ShiftAmount};
 pub enum Instr {
     /// Load upper immediate: `rd` becomes `imm`, whose low 12 bits are 0.
     Lui {
-        rd: Register,
+        rd: Destination,
         imm: u32,
     },
     /// Add upper immediate to pc.
     Auipc {
-        rd: Register,
+        rd: Destination,
         imm: u32,
     },
     /// Jump and link.
     Jal {
-        rd: Register,
-        offset: u32,
+        rd: Destination,
+        offset: Offset,
     },
     /// Jump and link register.
     Jalr {
-        rd: Register,
+        rd: Destination,
         rs1: Register,
         imm: u32,
     },
@@ -31,65 +31,65 @@ pub enum Instr {
     Beq {
         rs1: Register,
         rs2: Register,
-        offset: u32,
+        offset: Offset,
     },
     /// Branch if not equal.
     Bne {
         rs1: Register,
         rs2: Register,
-        offset: u32,
+        offset: Offset,
     },
     /// Branch if less, signed.
     Blt {
         rs1: Register,
         rs2: Register,
-        offset: u32,
+        offset: Offset,
     },
     /// Branch if greater or equal, signed.
     Bge {
         rs1: Register,
         rs2: Register,
-        offset: u32,
+        offset: Offset,
     },
     /// Branch if less, unsigned.
     Bltu {
         rs1: Register,
         rs2: Register,
-        offset: u32,
+        offset: Offset,
     },
     /// Branch if greater or equal, unsigned.
     Bgeu {
         rs1: Register,
         rs2: Register,
-        offset: u32,
+        offset: Offset,
     },
     /// Load byte, with its sign.
     Lb {
-        rd: Register,
+        rd: Destination,
         rs1: Register,
         imm: u32,
     },
     /// Load halfword, with its sign.
     Lh {
-        rd: Register,
+        rd: Destination,
         rs1: Register,
         imm: u32,
     },
     /// Load word.
     Lw {
-        rd: Register,
+        rd: Destination,
         rs1: Register,
         imm: u32,
     },
     /// Load byte, filled with 0.
     Lbu {
-        rd: Register,
+        rd: Destination,
         rs1: Register,
         imm: u32,
     },
     /// Load halfword, filled with 0.
     Lhu {
-        rd: Register,
+        rd: Destination,
         rs1: Register,
         imm: u32,
     },
@@ -113,115 +113,115 @@ pub enum Instr {
     },
     /// Add immediate.
     Addi {
-        rd: Register,
+        rd: Destination,
         rs1: Register,
         imm: u32,
     },
     /// Set if less than immediate, signed.
     Slti {
-        rd: Register,
+        rd: Destination,
         rs1: Register,
         imm: u32,
     },
     /// Set if less than immediate, unsigned; the immediate is sign-extended first.
     Sltiu {
-        rd: Register,
+        rd: Destination,
         rs1: Register,
         imm: u32,
     },
     /// Exclusive or with immediate.
     Xori {
-        rd: Register,
+        rd: Destination,
         rs1: Register,
         imm: u32,
     },
     /// Or with immediate.
     Ori {
-        rd: Register,
+        rd: Destination,
         rs1: Register,
         imm: u32,
     },
     /// And with immediate.
     Andi {
-        rd: Register,
+        rd: Destination,
         rs1: Register,
         imm: u32,
     },
     /// Shift left logical by immediate.
     Slli {
-        rd: Register,
+        rd: Destination,
         rs1: Register,
         amount: ShiftAmount,
     },
     /// Shift right logical by immediate.
     Srli {
-        rd: Register,
+        rd: Destination,
         rs1: Register,
         amount: ShiftAmount,
     },
     /// Shift right arithmetic by immediate.
     Srai {
-        rd: Register,
+        rd: Destination,
         rs1: Register,
         amount: ShiftAmount,
     },
     /// Add.
     Add {
-        rd: Register,
+        rd: Destination,
         rs1: Register,
         rs2: Register,
     },
     /// Subtract.
     Sub {
-        rd: Register,
+        rd: Destination,
         rs1: Register,
         rs2: Register,
     },
     /// Shift left logical.
     Sll {
-        rd: Register,
+        rd: Destination,
         rs1: Register,
         rs2: Register,
     },
     /// Set if less than, signed.
     Slt {
-        rd: Register,
+        rd: Destination,
         rs1: Register,
         rs2: Register,
     },
     /// Set if less than, unsigned.
     Sltu {
-        rd: Register,
+        rd: Destination,
         rs1: Register,
         rs2: Register,
     },
     /// Exclusive or.
     Xor {
-        rd: Register,
+        rd: Destination,
         rs1: Register,
         rs2: Register,
     },
     /// Shift right logical.
     Srl {
-        rd: Register,
+        rd: Destination,
         rs1: Register,
         rs2: Register,
     },
     /// Shift right arithmetic.
     Sra {
-        rd: Register,
+        rd: Destination,
         rs1: Register,
         rs2: Register,
     },
     /// Or.
     Or {
-        rd: Register,
+        rd: Destination,
         rs1: Register,
         rs2: Register,
     },
     /// And.
     And {
-        rd: Register,
+        rd: Destination,
         rs1: Register,
         rs2: Register,
     },

@@ -8,11 +8,9 @@ mod decoder;
 mod fields;
 mod instr;
 pub mod laws;
-mod operation;
 mod refused;
 
 pub use decoder::decode;
-pub use fields::{Destination, Register, ShiftAmount};
+pub use fields::{Destination, Offset, Register, ShiftAmount};
 pub use instr::Instr;
-pub use operation::{Code, Operation};
 pub use refused::Refused;

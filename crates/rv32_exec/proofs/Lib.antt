@@ -1,8 +1,8 @@
+pub mod Places
 pub mod Steps
 pub mod Runs
 pub mod Arrivals
 pub mod Interpreting
-pub mod Operating
 pub mod Epochs
 pub mod LawsOfRuns
 pub mod Accesses

@@ -8,6 +8,6 @@ pub mod Sequential
 -- Words of contracts: Arrival (what `advance` answers) and Laws (what the laws say).
 pub mod Arrival
 pub mod Laws
--- What the code keeps: Interpreter (one instruction of the interpreter's loop) and Operating (one operation).
+-- What the code keeps: Registers (those of a hart) and Interpreter (how its loop runs).
+pub mod Registers
 pub mod Interpreter
-pub mod Operating

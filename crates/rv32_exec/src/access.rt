@@ -5,7 +5,7 @@ ghost use Rattle.rv32_exec.specs.Interpreter as spec;
 
 use crate::stop::{LOAD_OUTSIDE_MEMORY, MISALIGNED_DATA, STORE_OUTSIDE_DATA, Stop};
 use memory_bytes::low_bytes;
-use rv32_decode::Register;
+use rv32_decode::Destination;
 use rv32_image::Image;
 
 /// An access to data as an instruction asks for it, wherever it lies.
@@ -16,7 +16,7 @@ pub(crate) enum Access {
         addr: u32,
         width: u32,
         signed: bool,
-        rd: Register,
+        rd: Destination,
     },
     /// A store of the low `width` bytes of `value`.
     Store {
@@ -49,7 +49,7 @@ impl Access {
                     addr,
                     width,
                     signed,
-                    rd,
+                    rd: rd.register(),
                 }
             }
             Access::Store { addr, width, value } => {

@@ -1,8 +1,7 @@
 ghost use Rattle.std.specs.Prelude.{◌≡◌, ◌<◌, ◌≤◌, ◌+◌, ◌%◌, ◌^◌, length, slice_index};
 ghost use Rattle.rv32_exec.specs.Hart as spec;
 ghost use Rattle.rv32_exec.specs.Execute.{Stops, after_load, hart_effect};
-ghost use Rattle.rv32_exec.specs.Interpreter.{IsNoAccess, rest};
-ghost use Rattle.rv32_exec.specs.NextEvent.{next_event};
+ghost use Rattle.rv32_exec.specs.Interpreter.{IsNoAccess, LeadsTo};
 ghost use Rattle.rv32_exec.specs.Sequential.{exits};
 ghost use Rattle.memory_bytes.specs.Bytes.{IsWidth};
 
@@ -10,7 +9,7 @@ use crate::access::extend;
 use crate::interpreter::run;
 use crate::registers::Registers;
 use crate::stop::{EPOCH_END, Stop};
-use rv32_decode::Register;
+use rv32_decode::{Destination, Register};
 use rv32_image::Image;
 use std::marker::Model;
 
@@ -19,7 +18,7 @@ use std::marker::Model;
 /// The pc is a multiple of 4, and x0 is 0.
 ///
 /// Source: RISC-V Unprivileged ISA, "Programmers' Model for Base Integer ISA".
-#[derive(Clone, Copy, Debug, PartialEq, Eq)]
+#[derive(Clone, Copy, Debug)]
 pub struct Hart {
     x: Registers,
     pc: u32,
@@ -31,13 +30,40 @@ impl Model for Hart {
 
     ghost Value = { HartState };
 
+    ghost use Rattle.std.specs.Prelude.{◌≡◌};
+    ghost use Rattle.std.proofs.Common.{sym};
     ghost use Rattle.rv32_exec.specs.Hart.{IsHart};
 
-    ghost view = { λ h. record { x = h.x; pc = h.pc; done = h.done } };
+    ghost view = { λ h. record { x = h.x.x; pc = h.pc; done = h.done } };
 
-    ghost invariant = { λ h. IsHart (record { x = h.x; pc = h.pc; done = h.done }) };
+    ghost invariant = { λ h. IsHart (record { x = h.x.x; pc = h.pc; done = h.done }) × (h.x.unread ≡ 0) };
 
-    ghost inverse = { λ s. record { x = s.x; pc = s.pc; done = s.done } };
+    ghost inverse = { λ s. record { x = record { x = s.x; unread = 0 }; pc = s.pc; done = s.done } };
+
+    ghost inverse_ok = { λ h known i. record { x = record { x = h.x.x; unread = sym known.1 i }; pc = h.pc; done = h.done } };
+}
+
+impl PartialEq for Hart {
+    ghost use Rattle.std.specs.Prelude.{nat_eq};
+    ghost use Rattle.std.specs.Ordering.{eq_of_both, on};
+    ghost use Rattle.std.proofs.Common.{rules};
+    ghost use Rattle.std.specs.Cmp.Rules.{comparing};
+    ghost use lib.Pointwise.{pointwise};
+
+    ghost eq = { eq_of_both (on (λ h. h.x) (pointwise nat_eq)) (eq_of_both (on (λ h. h.pc) nat_eq) (on (λ h. h.done) nat_eq)) };
+
+    ghost laws = { Prim.search (comparing, rules) };
+
+    fn eq(&self, other: &Hart) -> bool {
+        self.x.is(&other.x) && self.pc == other.pc && self.done == other.done
+    }
+}
+
+impl Eq for Hart {
+    ghost use Rattle.std.proofs.Common.{rules};
+    ghost use Rattle.std.specs.Cmp.Rules.{comparing};
+
+    ghost laws = { Prim.search (comparing, rules) };
 }
 
 impl Hart {
@@ -89,7 +115,8 @@ impl Hart {
         requires { self.old.done < 2 ^ 63 }
         ensures { self.new ≡ spec.wrote self.old rd value }
     {
-        self.x.set(rd, value);
+        self.x.put(Destination::new(rd.number()), value);
+        self.x.settle();
         self.go_on();
     }
 
@@ -121,14 +148,12 @@ impl Hart {
         requires words { length bytes.old % 4 ≡ 0 }
         ensures stop { hart_effect image.now self.new ≡ Stops result }
         ensures whole { length bytes.old ≡ image.now.size → IsNoAccess result }
-        ensures rest { rest image.now self.new bytes.new ≡ rest image.now self.old bytes.old }
-        ensures event { length bytes.old ≡ 0 → next_event image.now self.new ≡ next_event image.now self.old }
-        ensures within { self.old.done ≤ image.now.limit → self.new.done ≤ image.now.limit }
-        ensures later { self.old.done ≤ self.new.done }
+        ensures leads { LeadsTo image.now self.old bytes.old self.new bytes.new }
         ensures limit { image.now.limit ≤ 1000000 }
     {
         let halt = run(image, &mut self.x, self.pc, self.done, bytes);
         self.x.look();
+        self.x.settle();
         self.pc = halt.pc;
         self.done = halt.done;
         halt.at

@@ -7,7 +7,6 @@ mod hart;
 mod instruction;
 mod interpreter;
 pub mod laws;
-mod operation;
 mod registers;
 mod sequential;
 mod stop;

@@ -1,59 +1,83 @@
-ghost use Rattle.std.specs.Prelude.{◌≡◌, nat_lt, slice_index};
+ghost use Rattle.std.specs.Prelude.{◌≡◌, nat_eq, nat_lt, slice_index};
+ghost use lib.Pointwise.{pointwise};
 ghost use Rattle.rv32_exec.specs.Hart.{AreRegisters, with_register};
 ghost use Rattle.rv32_exec.specs.Execute.{add, is_less_signed, shift_right_arithmetic};
 
 use rv32_decode::{Destination, Register};
 use std::marker::Model;
 
-/// The integer registers of a hart. Contracts see what they hold, x0 first; x0 is 0.
-#[derive(Clone, Copy, Debug, PartialEq, Eq)]
+/// The integer registers of a hart, x0 to x31, and after them the place of what is written to x0, which nothing reads. Contracts
+/// see the registers as `x`, in which x0 is 0, and that place as `unread`.
+#[derive(Clone, Copy, Debug)]
 pub(crate) struct Registers {
-    x: [u32; 32],
+    places: [u32; 33],
 }
 
 impl Model for Registers {
-    ghost use Rattle.std.specs.Prelude.{ℕ, List};
+    ghost use Rattle.std.specs.Prelude.{◌≡◌, length, slice_index};
+    ghost use Rattle.rv32_exec.specs.Registers.{RegisterFile, file_of, places_of, places_back};
 
-    ghost Value = { List ℕ };
+    ghost Value = { RegisterFile };
 
-    ghost use Rattle.rv32_exec.specs.Hart.{AreRegisters};
+    ghost view = { λ r. file_of r.places };
 
-    ghost view = { λ r. r.x };
+    ghost invariant = { λ r. (length r.places ≡ 33) × (slice_index r.places 0 ≡ 0) };
 
-    ghost invariant = { λ r. AreRegisters r.x };
+    ghost inverse = { λ f. record { places = places_of f } };
 
-    ghost inverse = { λ x. record { x = x } };
+    ghost inverse_ok = { λ r h i. record { places = places_back r.places h.0 i } };
 }
 
 impl Registers {
     /// Registers that hold these values.
     pub(crate) fn new(x: [u32; 32]) -> Registers
         requires { slice_index x 0 ≡ 0 }
-        ensures { result ≡ x }
+        ensures x { result.x ≡ x }
+        ensures unread { result.unread ≡ 0 }
     {
-        Registers { x }
+        let mut places = [0; 33];
+        for number in 0..32 {
+            places[number] = x[number];
+        }
+        Registers { places }
     }
 
     /// Does nothing: it tells what holds of all registers.
     #[inline]
     pub(crate) fn look(&self)
-        ensures { AreRegisters self.now }
+        ensures { AreRegisters self.now.x }
     {
-        let _ = &self.x;
+        let _ = &self.places;
+    }
+
+    /// Whether these hold the same.
+    pub(crate) fn is(&self, other: &Registers) -> bool
+        ensures { result ≡ pointwise nat_eq self.now.x other.now.x }
+    {
+        self.places[..32] == other.places[..32]
+    }
+
+    /// Forgets what was written to x0.
+    #[inline]
+    pub(crate) fn settle(&mut self)
+        ensures x { self.new.x ≡ self.old.x }
+        ensures unread { self.new.unread ≡ 0 }
+    {
+        self.places[32] = 0;
     }
 
     /// What a register holds.
     #[inline]
     pub(crate) fn get(&self, register: Register) -> u32
-        ensures { result ≡ slice_index self.now register }
+        ensures { result ≡ slice_index self.now.x register }
     {
-        self.x[usize::from(register.number())]
+        self.places[usize::from(register.number())]
     }
 
     /// The sum of what a register holds and a number, in 32 bits.
     #[inline]
     pub(crate) fn plus(&self, register: Register, number: u32) -> u32
-        ensures { result ≡ add (slice_index self.now register) number }
+        ensures { result ≡ add (slice_index self.now.x register) number }
     {
         self.get(register).wrapping_add(number)
     }
@@ -61,7 +85,7 @@ impl Registers {
     /// Whether one holds less than the other, as unsigned numbers.
     #[inline]
     pub(crate) fn is_less(&self, left: Register, right: Register) -> bool
-        ensures { result ≡ nat_lt (slice_index self.now left) (slice_index self.now right) }
+        ensures { result ≡ nat_lt (slice_index self.now.x left) (slice_index self.now.x right) }
     {
         self.get(left) < self.get(right)
     }
@@ -69,7 +93,7 @@ impl Registers {
     /// Whether one holds less than the other, as signed numbers.
     #[inline]
     pub(crate) fn is_less_signed(&self, left: Register, right: Register) -> bool
-        ensures { result ≡ is_less_signed (slice_index self.now left) (slice_index self.now right) }
+        ensures { result ≡ is_less_signed (slice_index self.now.x left) (slice_index self.now.x right) }
     {
         self.get(left).cast_signed() < self.get(right).cast_signed()
     }
@@ -77,7 +101,7 @@ impl Registers {
     /// What a register holds, shifted right by the low five bits of the amount, with copies of its sign.
     #[inline]
     pub(crate) fn shifted_signed(&self, register: Register, amount: u32) -> u32
-        ensures { result ≡ shift_right_arithmetic (slice_index self.now register) amount }
+        ensures { result ≡ shift_right_arithmetic (slice_index self.now.x register) amount }
     {
         self.get(register)
             .cast_signed()
@@ -85,28 +109,11 @@ impl Registers {
             .cast_unsigned()
     }
 
-    /// Sets a register other than x0.
+    /// Writes a register; x0 stays 0.
     #[inline]
     pub(crate) fn put(&mut self, rd: Destination, value: u32)
-        ensures { self.new ≡ with_register self.old rd value }
+        ensures { self.new.x ≡ with_register self.old.x rd value }
     {
-        self.x[usize::from(rd.number())] = value;
-    }
-
-    /// Writes 0 to x0, which holds it.
-    #[inline]
-    pub(crate) fn clear_x0(&mut self)
-        ensures { self.new ≡ self.old }
-    {
-        self.x[0] = 0_u32;
-    }
-
-    /// Sets a register; x0 stays 0.
-    #[inline]
-    pub(crate) fn set(&mut self, rd: Register, value: u32)
-        ensures { self.new ≡ with_register self.old rd value }
-    {
-        self.x[usize::from(rd.number())] = value;
-        self.x[0] = 0;
+        self.places[usize::from(rd.place())] = value;
     }
 }

@@ -1,6 +1,6 @@
 -- What an image keeps beside what contracts see: its code, decoded once.
 use Rattle.rv32_image.specs.declared.image.Image.TheInside.{Inside}
-use Rattle.rv32_image.specs.Decoded.{IsDecoded, IsPrepared}
+use Rattle.rv32_image.specs.Decoded.{IsDecoded}
 use Rattle.rv32_image.specs.Header.{loaded_image}
 use Rattle.rv32_image.specs.Image.{LoadedImage, IsImage}
 
@@ -10,4 +10,3 @@ view_of i = loaded_image i.header i.bytes.items
 pub record IsLoaded (i : Inside) : Type 0 where
   pub image : IsImage (view_of i)
   pub decoded : IsDecoded i.program.items i.header.code i.bytes.items
-  pub prepared : IsPrepared i.operations.items i.program.items

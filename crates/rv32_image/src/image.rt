@@ -3,13 +3,13 @@ ghost use Rattle.rv32_decode.specs.Table.{meaning_of};
 ghost use Rattle.rv32_image.specs.Image.{IsImage};
 ghost use Rattle.rv32_image.specs.Machine.{IsMachineFor};
 ghost use Rattle.rv32_image.specs.Header.{loaded_image};
-ghost use Rattle.rv32_image.specs.Decoded.{IsDecoded, IsPrepared, kept_of};
+ghost use Rattle.rv32_image.specs.Decoded.{IsDecoded, kept_of, trap};
 ghost use Rattle.memory_bytes.specs.Bytes.{number_at};
 
 use crate::machine::Machine;
 use crate::version::Version;
 use memory_bytes::read_number;
-use rv32_decode::{Instr, Operation, Refused, Register, decode};
+use rv32_decode::{Destination, Instr, Offset, Refused, decode};
 use std::alloc::{AllocError, Global};
 use std::marker::Model;
 use thiserror::Error;
@@ -51,7 +51,6 @@ pub struct Image {
     header: Header,
     bytes: Vec<u8>,
     program: Vec<Instr>,
-    operations: Vec<Operation>,
 }
 
 impl Model for Image {
@@ -75,12 +74,10 @@ impl Image {
         ensures { IfOk result (λ image. image ≡ loaded_image header bytes.items) }
     {
         let program = decoded(alloc, header.code, bytes.as_slice()).map_err(|_| NoMemory)?;
-        let operations = prepared(alloc, program.as_slice()).map_err(|_| NoMemory)?;
         Ok(Image {
             header,
             bytes,
             program,
-            operations,
         })
     }
 
@@ -92,12 +89,10 @@ impl Image {
     {
         let bytes = Vec::from_slice(alloc, self.bytes.as_slice()).map_err(|_| NoMemory)?;
         let program = Vec::from_slice(alloc, self.program.as_slice()).map_err(|_| NoMemory)?;
-        let operations = Vec::from_slice(alloc, self.operations.as_slice()).map_err(|_| NoMemory)?;
         Ok(Image {
             header: self.header,
             bytes,
             program,
-            operations,
         })
     }
 
@@ -191,21 +186,13 @@ impl Image {
         self.bytes.as_slice()
     }
 
-    /// The code decoded: each word's instruction, and a jump that faults in place of a word that is refused.
+    /// The code decoded: each word's instruction, and a trap, a jump that faults, in place of a word that is refused and after
+    /// the last.
     pub fn program(&self) -> &[Instr]
         ensures program { IsDecoded result.now self.now.code self.now.bytes }
         ensures limits { IsImage self.now }
     {
         self.program.as_slice()
-    }
-
-    /// The code decoded, and its operations with one after them that leaves.
-    pub fn operations(&self) -> (&[Instr], &[Operation])
-        ensures program { IsDecoded result.0.now self.now.code self.now.bytes }
-        ensures operations { IsPrepared result.1.now result.0.now }
-        ensures limits { IsImage self.now }
-    {
-        (self.program.as_slice(), self.operations.as_slice())
     }
 
     /// The instruction at a pc, which is in the code.
@@ -214,53 +201,42 @@ impl Image {
         requires within { pc < self.now.code }
         ensures { result ≡ meaning_of (number_at (λ a. slice_index self.now.bytes a) pc 4) }
     {
-        match self.program[(pc / 4) as usize] {
-            // It may stand for a word that is refused.
-            Instr::Jal { .. } => decode(read_number(self.bytes.as_slice(), pc as usize, 4)),
-            instr => Ok(instr),
-        }
+        decode(read_number(self.bytes.as_slice(), pc as usize, 4))
     }
 }
 
-/// The instructions of the code, in order.
+/// The instructions of the code, in order, and a trap after them.
 fn decoded(alloc: Global, code: u32, bytes: &[u8]) -> Result<Vec<Instr>, AllocError>
     requires words { code % 4 ≡ 0 }
     requires within { code ≤ length bytes.now }
     ensures { IfOk result (λ program. IsDecoded program.items code bytes.now) }
 {
     let words = (code / 4) as usize;
-    let mut program = Vec::with_capacity(alloc, words)?;
+    let mut program = Vec::with_capacity(alloc, words + 1)?;
     for word in 0..words {
         program.push(kept(read_number(bytes, 4 * word, 4)))?;
     }
+    program.push(trap())?;
     Ok(program)
 }
 
-/// The operations of a program, and one that leaves.
-fn prepared(alloc: Global, program: &[Instr]) -> Result<Vec<Operation>, AllocError>
-    requires { length program.now < 2 ^ 30 }
-    ensures { IfOk result (λ operations. IsPrepared operations.items program.now) }
-{
-    let words = program.len();
-    let mut operations = Vec::with_capacity(alloc, words + 1)?;
-    for word in 0..words {
-        operations.push(Operation::of(program[word], word, words))?;
-    }
-    operations.push(Operation::leave())?;
-    Ok(operations)
-}
-
-/// What is kept of a word: its instruction, or where it is refused, a jump that faults wherever it stands, since
-/// its target is misaligned.
+/// What is kept of a word: its instruction, or a trap where it is refused.
 #[tactic(auto, unfolding(crate::specs::Decoded::kept_of))]
 fn kept(word: u32) -> Instr
     ensures { result ≡ kept_of (meaning_of word) }
 {
     match decode(word) {
         Ok(instr) => instr,
-        Err(_) => Instr::Jal {
-            rd: Register::new(0),
-            offset: 2,
-        },
+        Err(_) => trap(),
+    }
+}
+
+/// A jump that faults wherever it stands, since its target is misaligned.
+fn trap() -> Instr
+    ensures { result ≡ trap }
+{
+    Instr::Jal {
+        rd: Destination::new(0),
+        offset: Offset::new(2),
     }
 }

@@ -12,12 +12,12 @@ returns-clause-room c =
 pub returns-clause-now : goal.returns-clause-now
 returns-clause-now c =
     let here = next_event-stops c.args.image.now c.run.new.self c.run.result c.run.ensures.stop in
-    ap (λ (e : Event). e.now) (sym here ∙ c.run.ensures.event refl)
+    ap (λ (e : Event). e.now) (sym here ∙ c.run.ensures.leads.event refl)
 
 pub returns-clause-at : goal.returns-clause-at
 returns-clause-at c =
     let here = next_event-stops c.args.image.now c.run.new.self c.run.result c.run.ensures.stop in
-    ap (λ (e : Event). e.at) (sym here ∙ c.run.ensures.event refl)
+    ap (λ (e : Event). e.at) (sym here ∙ c.run.ensures.leads.event refl)
 
 pub returns-clause-stop : goal.returns-clause-stop
 returns-clause-stop c = stop_of_effect c.args.image.now c.run.new.self c.run.result c.run.ensures.stop
