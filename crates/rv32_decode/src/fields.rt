@@ -1,4 +1,4 @@
-ghost use Rattle.std.specs.Prelude.{◌≡◌, ◌<◌, ◌%◌};
+ghost use Rattle.std.specs.Prelude.{◌≡◌, ◌<◌, ◌%◌, ◌^◌};
 ghost use Rattle.rv32_decode.specs.Destination.{place_of};
 ghost use Rattle.rv32_decode.specs.Offset.{words_on};
 
@@ -95,8 +95,8 @@ impl Destination {
 
 /// How far a branch or a jump goes: bytes, of 32 bits, an even number. Contracts see it as that number.
 ///
-/// It is kept as a number of words of 32 bits with a sign, from the word that follows on. Where the bytes are no whole words it is
-/// 2^30 more, which is farther than any code.
+/// It is kept as a number of words, of 32 bits with a sign. Where the bytes are no whole words it is 2^30 more, which is farther than
+/// any code.
 #[derive(Clone, Copy)]
 pub struct Offset {
     words: u32,
@@ -126,7 +126,7 @@ impl Offset {
         let sign = if bytes < 1 << 31 { 0 } else { 3 << 30 };
         let odd = if bytes % 4 == 0 { 0 } else { 1 << 30 };
         Offset {
-            words: (bytes / 4 + sign).wrapping_add(odd).wrapping_sub(1),
+            words: (bytes / 4 + sign).wrapping_add(odd),
         }
     }
 
@@ -134,19 +134,19 @@ impl Offset {
     pub fn bytes(self) -> u32
         ensures { result ≡ self }
     {
-        let words = self.words.wrapping_add(1);
-        let odd = if words.wrapping_add(1 << 29) < 1 << 30 {
+        let odd = if self.words.wrapping_add(1 << 29) < 1 << 30 {
             0
         } else {
             2
         };
-        words.wrapping_mul(4) + odd
+        self.words.wrapping_mul(4) + odd
     }
 
-    /// How many words it goes on from the word that follows, modulo 2^64; at least 2^29 - 1 where it is no whole words.
+    /// How many words it is, modulo 2^64; at least 2^29 where it is no whole words.
     #[inline]
     pub fn words_on(self) -> usize
-        ensures { result ≡ words_on self }
+        ensures words { result ≡ words_on self }
+        ensures below { self < 2 ^ 32 }
     {
         i64::from(self.words.cast_signed()).cast_unsigned() as usize
     }

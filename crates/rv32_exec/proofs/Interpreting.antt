@@ -1,27 +1,24 @@
 -- One instruction of the interpreter's loop is one of the epoch.
-use Rattle.std.proofs.Common.{◌≡◌, ◌⊎◌, inl, inr, ℕ, suc, ◌+◌, ◌-◌, ◌*◌, ◌/◌, ◌%◌, ◌<◌, ◌≤◌, ◌^◌, ◌==◌, ◌||◌, not, cond, nat_le, nat_lt, Bool, true, false, true≢false, Option, List, length, Some, None, Result, Ok, Err, slice_get, slice_index, refl, sym, ap, ◌∙◌, arith}
+use Rattle.std.proofs.Common.{◌≡◌, ◌⊎◌, inl, inr, ℕ, suc, ◌+◌, ◌-◌, ◌*◌, ◌/◌, ◌%◌, ◌<◌, ◌≤◌, ◌^◌, ◌==◌, cond, nat_le, nat_lt, Bool, true, false, true≢false, List, length, Some, Result, Ok, Err, slice_get, slice_index, refl, sym, ap, ◌∙◌, arith}
 use Rattle.std.proofs.lemmas.Bool.Decides.{nat_tests}
 use Rattle.rv32_decode.specs.declared.instr.Instr.{Instr}
 use Rattle.rv32_decode.specs.declared.refused.Refused.{Refused}
 use Rattle.rv32_decode.specs.declared.refused.Refused.TheVariants.{Illegal, System}
 use Rattle.rv32_decode.specs.Table.{meaning_of}
 use Rattle.rv32_exec.specs.Hart.{HartState, epoch_end}
-use Rattle.memory_bytes.specs.Bytes.{IsWidth, number_at}
+use Rattle.memory_bytes.specs.Bytes.{number_at}
 use Rattle.rv32_image.specs.Decoded.{IsDecoded, kept_of, trap, word_in}
 use Rattle.rv32_image.proofs.Kept.{kept_at}
 use Rattle.rv32_image.specs.Image.{LoadedImage, IsImage}
 use Rattle.rv32_exec.specs.declared.stop.Stop.{Stop}
-use Rattle.rv32_exec.specs.declared.stop.Stop.TheVariants.{Load, Store, Fault}
+use Rattle.rv32_exec.specs.declared.stop.Stop.TheVariants.{Load, Store, Ended, Fault}
 use Rattle.rv32_exec.specs.Execute.{Effect, Executes, Stops, add, instruction_effect, word_effect, hart_effect}
-use Rattle.rv32_exec.specs.Sequential.{Progress, Runs, execute, after_steps}
-use Rattle.rv32_exec.specs.NextEvent.{Event, next_event}
+use Rattle.rv32_exec.specs.Sequential.{Runs, execute, after_steps}
 use Rattle.rv32_exec.proofs.Runs.{next_event-executes}
-use Rattle.rv32_exec.specs.Interpreter.{HasWidth, IsNoAccess, IsOutside, IsPlace, IsUnmade, LeadsTo, Leads, access_effect, after_effect, hart, hart_at}
-use Rattle.rv32_exec.specs.declared.access.Access.{Access}
-use Rattle.rv32_exec.specs.declared.access.Access.TheVariants as access
+use Rattle.rv32_exec.specs.Interpreter.{IsAnAccess, IsFaulting, IsPlace, IsRun, LeadsTo, Leads, after_effect, hart, hart_at, is_whole, left_by}
+use Rattle.rv32_exec.specs.declared.interpreter.Why.TheVariants as why
 use Rattle.rv32_exec.specs.declared.instruction.Way.TheVariants as way
-use Rattle.rv32_exec.specs.declared.interpreter.Place.{Place}
-use Rattle.rv32_exec.specs.Faults.{illegal_word, load_outside_memory, misaligned_data, misaligned_target, store_outside_data, system_instruction}
+use Rattle.rv32_exec.specs.Faults.{illegal_word, misaligned_target, system_instruction}
 
 -- inside the code and below the limit the word is looked at
 fetched : (image : LoadedImage) (h : HartState) → IsImage image → h.pc < image.code → h.done < image.limit
@@ -159,11 +156,11 @@ stands_at image program is_near word last instr ok decoded inside before within 
       kept = kept_at program image word instr decoded in_program (at in_program);
     }
 
-pub followed : (image : LoadedImage) (is_near : Bool) (x x' : List ℕ) (word last : ℕ) (memory memory' : List ℕ) (instr : Instr) (unmade : Option Access) → Stands image is_near word last instr
-    → Leads image word (hart x (4 * word) (word + image.limit - last)) memory (instruction_effect image (hart x (4 * word) (word + image.limit - last)) (λ r. slice_index x r) instr) way.Following unmade x' memory'
+pub followed : (image : LoadedImage) (is_near : Bool) (x x' : List ℕ) (word last : ℕ) (memory memory' : List ℕ) (instr : Instr) (at : Stop) → Stands image is_near word last instr
+    → Leads image word (hart x (4 * word) (word + image.limit - last)) memory (instruction_effect image (hart x (4 * word) (word + image.limit - last)) (λ r. slice_index x r) instr) way.Following at x' memory'
     → (4 * word < image.code) × (word < last)
     × LeadsTo image (hart_at image x (record { word = word; last = last })) memory (hart_at image x' (record { word = word + 1; last = last })) memory'
-followed image is_near x x' word last memory memory' instr unmade stands leads =
+followed image is_near x x' word last memory memory' instr at stands leads =
     on image is_near x x' word last (word + 1) last ((4 * word + 4) % 2 ^ 32) memory memory' _ stands.here
     (ap (λ i. instruction_effect image (hart x (4 * word) (word + image.limit - last)) (λ r. slice_index x r) i) stands.kept) leads.0 leads.1
     (λ inside room. (omega (arith, inside, stands.here.ok.code_most, stands.here.ok.size_most), omega arith))
@@ -198,100 +195,101 @@ place_there image is_near word last to here room address = record {
 
 -- ---- stops
 
--- nothing is executed
-abbrev DoesStop : Effect → Type 0
-DoesStop (Executes after) = ⊥
-DoesStop (Stops at) = Unit {0}
+no_fault : (at : Stop) (cause pc : ℕ) → IsAnAccess at → Stops at ≡ Stops (Fault cause pc) → ⊥
+no_fault (Load address width signed rd) cause pc access is = cc
+no_fault (Store address width value) cause pc access is = cc
+no_fault Ended cause pc access is = access
+no_fault (Fault other at) cause pc access is = access
 
--- a stop that is no access
-abbrev pub StopsWithoutAccess : Effect → Type 0
-StopsWithoutAccess (Executes after) = Unit {0}
-StopsWithoutAccess (Stops at) = IsNoAccess at
-
-without_load : (image : LoadedImage) (h : HartState) (width : ℕ) (signed : Bool) (rd address : ℕ) (aligned outside : Bool) → IsWidth width
-    → (address % width ≡ 0 → image.size ≤ address) → (address % width == 0) ≡ aligned → nat_lt image.size (address + width) ≡ outside
-    → StopsWithoutAccess (cond (not aligned) (Stops (Fault misaligned_data h.pc)) (cond outside (Stops (Fault load_outside_memory h.pc)) (Stops (Load address width signed rd))))
-without_load image h width signed rd address false outside wide past aligned is = tt
-without_load image h width signed rd address true true wide past aligned is = tt
-without_load image h width signed rd address true false wide past aligned is = let here = past (grind (arith, nat_tests)) in grind (arith, nat_tests)
-
-without_store : (image : LoadedImage) (h : HartState) (width address value : ℕ) (aligned outside code : Bool) → IsWidth width
-    → (address % width ≡ 0 → image.code ≤ address → image.size ≤ address) → (address % width == 0) ≡ aligned → nat_lt image.size (address + width) ≡ outside → nat_lt address image.code ≡ code
-    → StopsWithoutAccess (cond (not aligned) (Stops (Fault misaligned_data h.pc)) (cond (outside || code) (Stops (Fault store_outside_data h.pc)) (Stops (Store address width value))))
-without_store image h width address value false outside code wide past aligned is above = tt
-without_store image h width address value true true code wide past aligned is above = tt
-without_store image h width address value true false true wide past aligned is above = tt
-without_store image h width address value true false false wide past aligned is above =
-    let here = past (grind (arith, nat_tests)) (grind (arith, nat_tests)) in grind (arith, nat_tests)
-
--- an access that lies outside all of memory is a fault
-outside-faults : (image : LoadedImage) (h : HartState) (a : Access) → HasWidth a → IsOutside image image.size a → StopsWithoutAccess (access_effect image h a)
-outside-faults image h (access.Load address width signed rd) wide past =
-    without_load image h width signed rd address (address % width == 0) (nat_lt image.size (address + width)) wide past refl refl
-outside-faults image h (access.Store address width value) wide past =
-    without_store image h width address (value % 256 ^ width) (address % width == 0) (nat_lt image.size (address + width)) (nat_lt address image.code) wide past refl refl refl
-
-stop-without : (effect : Effect) (at : Stop) → effect ≡ Stops at → StopsWithoutAccess effect → IsNoAccess at
-stop-without effect at is none = rw is at none
-
-pub without_access : (image : LoadedImage) (h : HartState) (a : Access) (at : Stop) (bytes : ℕ) → HasWidth a → IsOutside image bytes a → bytes ≡ image.size
-    → access_effect image h a ≡ Stops at → IsNoAccess at
-without_access image h a at bytes wide past all is = stop-without _ at is (outside-faults image h a wide (rw all at past))
-
--- no access is refused as a jump is
-other_fault : (cause pc : ℕ) (e : Effect) (b : Bool) → (cause ≡ misaligned_target → ⊥) → (e ≡ Stops (Fault misaligned_target pc) → ⊥)
-    → cond b (Stops (Fault cause pc)) e ≡ Stops (Fault misaligned_target pc) → ⊥
-other_fault cause pc e true differs other is = differs cc
-other_fault cause pc e false differs other is = other is
-
-no_jump_fault : (image : LoadedImage) (h : HartState) (a : Access) → access_effect image h a ≡ Stops (Fault misaligned_target h.pc) → ⊥
-no_jump_fault image h (access.Load address width signed rd) is =
-    other_fault misaligned_data h.pc _ (not (address % width == 0)) (λ e. omega (arith, e))
-    (other_fault load_outside_memory h.pc _ (nat_lt image.size (address + width)) (λ e. omega (arith, e)) (λ e. cc)) is
-no_jump_fault image h (access.Store address width value) is =
-    other_fault misaligned_data h.pc _ (not (address % width == 0)) (λ e. omega (arith, e))
-    (other_fault store_outside_data h.pc _ (nat_lt image.size (address + width) || nat_lt address image.code) (λ e. omega (arith, e)) (λ e. cc)) is
-
--- where an access isn't made, it is the hart's
-pub unmade_here : (image : LoadedImage) (is_near : Bool) (x : List ℕ) (word last bytes : ℕ) (instr : Instr) (unmade : Option Access) → Stands image is_near word last instr
-    → IsUnmade image (hart x (4 * word) (word + image.limit - last)) bytes
-    (instruction_effect image (hart x (4 * word) (word + image.limit - last)) (λ r. slice_index x r) instr) unmade
-    → IsUnmade image (hart x (4 * word) (word + image.limit - last)) bytes (hart_effect image (hart x (4 * word) (word + image.limit - last))) unmade
-unmade_here image is_near x word last bytes instr None stands is = is
-unmade_here image is_near x word last bytes instr (Some a) stands is =
+-- where the instruction stops at an access, the hart does
+pub stopped_here : (image : LoadedImage) (is_near : Bool) (x : List ℕ) (word last : ℕ) (instr : Instr) (at : Stop) → Stands image is_near word last instr
+    → instruction_effect image (hart x (4 * word) (word + image.limit - last)) (λ r. slice_index x r) instr ≡ Stops at → IsAnAccess at
+    → hart_effect image (hart x (4 * word) (word + image.limit - last)) ≡ Stops at
+stopped_here image is_near x word last instr at stands is access =
     let done = word + image.limit - last in
     let kept = ap (λ i. instruction_effect image (hart x (4 * word) done) (λ r. slice_index x r) i) stands.kept in
-    let other : kept_effect image x word done ≡ trapped word → ⊥ = λ faults. no_jump_fault image (hart x (4 * word) done) a (sym is.0 ∙ (kept ∙ faults)) in
+    let other : kept_effect image x word done ≡ trapped word → ⊥ = λ faults. no_fault at misaligned_target (4 * word) access (sym is ∙ (kept ∙ faults)) in
     let inside : 4 * word < image.code = in_code image x word done other in
     let room : word < last = room_in image is_near word last stands.here inside in
-    (does image x word done stands.here.ok inside (omega (arith, stands.here.within, room)) other ∙ (sym kept ∙ is.0), is.1, is.2)
+    does image x word done stands.here.ok inside (omega (arith, stands.here.within, room)) other ∙ (sym kept ∙ is)
 
--- the stop at a word that means this, and is no instruction, or a jump whose target is misaligned
-abbrev pub IsTrapStop : Result Instr Refused → ℕ → Stop → Type 0
-IsTrapStop (Ok instr) pc at = at ≡ Fault misaligned_target pc
-IsTrapStop (Err Illegal) pc at = at ≡ Fault illegal_word pc
-IsTrapStop (Err System) pc at = at ≡ Fault system_instruction pc
+-- the stop at a word that means this, and is no instruction, or one that faults with this cause
+abbrev pub IsFaultStop : Result Instr Refused → ℕ → ℕ → Stop → Type 0
+IsFaultStop (Ok instr) cause pc at = at ≡ Fault cause pc
+IsFaultStop (Err Illegal) cause pc at = at ≡ Fault illegal_word pc
+IsFaultStop (Err System) cause pc at = at ≡ Fault system_instruction pc
 
-trap_stop : (image : LoadedImage) (h : HartState) (means : Result Instr Refused) (at : Stop) → IsTrapStop means h.pc at
-    → instruction_effect image h (λ r. slice_index h.x r) (kept_of means) ≡ Stops (Fault misaligned_target h.pc) → word_effect image h means ≡ Stops at
+fault_stop : (image : LoadedImage) (h : HartState) (cause : ℕ) (means : Result Instr Refused) (at : Stop) → IsFaultStop means cause h.pc at
+    → instruction_effect image h (λ r. slice_index h.x r) (kept_of means) ≡ Stops (Fault cause h.pc) → word_effect image h means ≡ Stops at
 unfolding kept_of
-trap_stop image h (Ok instr) at stop faults = faults ∙ ap Stops (sym stop)
-trap_stop image h (Err Illegal) at stop faults = ap Stops (sym stop)
-trap_stop image h (Err System) at stop faults = ap Stops (sym stop)
+fault_stop image h cause (Ok instr) at stop faults = faults ∙ ap Stops (sym stop)
+fault_stop image h cause (Err Illegal) at stop faults = ap Stops (sym stop)
+fault_stop image h cause (Err System) at stop faults = ap Stops (sym stop)
 
--- where a hart stops at a trap in the code
-pub stops_at_trap : (image : LoadedImage) (x : List ℕ) (pc done : ℕ) (means : Result Instr Refused) (at : Stop) → IsImage image → pc % 4 ≡ 0 → pc < image.code → done < image.limit
-    → means ≡ meaning_of (number_at (λ a. slice_index image.bytes a) pc 4) → IsTrapStop means pc at
-    → instruction_effect image (hart x pc done) (λ r. slice_index x r) (kept_of (word_in image (pc / 4))) ≡ Stops (Fault misaligned_target pc)
-    → hart_effect image (hart x pc done) ≡ Stops at
-stops_at_trap image x pc done means at ok aligned inside room is stop faults =
+-- where a hart stops in the code at a word that is refused or whose instruction faults
+pub stops_at_fault : (image : LoadedImage) (x : List ℕ) (pc done cause : ℕ) (means : Result Instr Refused) (at : Stop) → IsImage image → pc % 4 ≡ 0 → pc < image.code
+    → means ≡ meaning_of (number_at (λ a. slice_index image.bytes a) pc 4) → IsFaultStop means cause pc at
+    → IsFaulting image (hart x pc done) cause → hart_effect image (hart x pc done) ≡ Stops at
+stops_at_fault image x pc done cause means at ok aligned inside is stop faults =
     let whole : 4 * (pc / 4) ≡ pc = omega (arith, aligned) in
     let here : nat_lt pc image.code ≡ true = grind (arith, nat_tests) in
-    fetched image (hart x pc done) ok inside room ∙ rw is at (trap_stop image (hart x pc done) means at stop (rw (whole, here, ← is) at faults))
+    fetched image (hart x pc done) ok inside (faults.0 inside) ∙ rw is at (fault_stop image (hart x pc done) cause means at stop (rw (whole, here, ← is) at (faults.1)))
 
--- what is kept of a word, where it is found by its address
-pub trapped_at : (image : LoadedImage) (is_near : Bool) (x : List ℕ) (word last done : ℕ) (instr : Instr) → Stands image is_near word last instr
-    → instruction_effect image (hart x (4 * word) done) (λ r. slice_index x r) instr ≡ trapped word
-    → instruction_effect image (hart x (4 * word) done) (λ r. slice_index x r) (kept_of (word_in image (4 * word / 4))) ≡ trapped word
-trapped_at image is_near x word last done instr stands is =
-    let back : 4 * word / 4 ≡ word = omega arith in rw (back, ← stands.kept) is
+-- what is known where an instruction faults, by its address
+pub faulting_at : (image : LoadedImage) (is_near : Bool) (x : List ℕ) (word last cause : ℕ) (instr : Instr) → Stands image is_near word last instr
+    → instruction_effect image (hart x (4 * word) (word + image.limit - last)) (λ r. slice_index x r) instr ≡ Stops (Fault cause (4 * word))
+    → IsFaulting image (hart x (4 * word) (word + image.limit - last)) cause
+faulting_at image is_near x word last cause instr stands is =
+    let back : 4 * word / 4 ≡ word = omega arith in (
+      λ inside. (let room = room_in image is_near word last stands.here inside in omega (arith, room, stands.here.within)),
+      rw (back, ← stands.kept) is,
+    )
+
+-- ---- jumps by an offset
+
+-- one that leads to a word of the code is by whole words
+pub whole_in_code : (word by words : ℕ) → word ≤ words → words < 2 ^ 28 → (by + 2 ^ 29) % 2 ^ 64 < 2 ^ 31 → (word + by) % 2 ^ 64 < words → is_whole by ≡ true
+whole_in_code word by words before few near inside = let whole : (by + 2 ^ 29) % 2 ^ 64 < 2 ^ 30 = omega (arith, before, few, near, inside) in grind (arith, nat_tests)
+
+pub same_word : (to words : ℕ) → words < 2 ^ 28 → to % 2 ^ 64 < words → to % 2 ^ 30 ≡ to % 2 ^ 64
+same_word to words few inside = omega (arith, few, inside)
+
+outside_code : (word by words : ℕ) → word ≤ words → words < 2 ^ 28 → is_whole by ≡ true → words ≤ (word + by) % 2 ^ 64 → words ≤ (word + by) % 2 ^ 30
+outside_code word by words before few is past = let whole : (by + 2 ^ 29) % 2 ^ 64 < 2 ^ 30 = grind (arith, nat_tests) in omega (arith, before, few, whole, past)
+
+-- one of whole words that leads on
+pub jumped_by : (image : LoadedImage) (is_near : Bool) (x x' : List ℕ) (word last by : ℕ) (memory memory' : List ℕ) (instr : Instr) (at : Stop) → Stands image is_near word last instr
+    → Leads image word (hart x (4 * word) (word + image.limit - last)) memory (instruction_effect image (hart x (4 * word) (word + image.limit - last)) (λ r. slice_index x r) instr) (way.By by) at x' memory'
+    → is_whole by ≡ true
+    → (4 * word < image.code) × (word < last)
+    × LeadsTo image (hart_at image x (record { word = word; last = last })) memory
+    (hart_at image x' (record { word = (word + by) % 2 ^ 30; last = last + (word + by) % 2 ^ 30 - word - 1 })) memory'
+jumped_by image is_near x x' word last by memory memory' instr at stands leads whole =
+    jumped image is_near x x' word last ((word + by) % 2 ^ 30) memory memory' instr stands (leads.0 whole) leads.1
+
+-- where one that leads to no word of the code ends the loop
+pub left_by_run : (image : LoadedImage) (is_near : Bool) (h : HartState) (first x x' : List ℕ) (word last by : ℕ) (memory memory' : List ℕ) (instr : Instr) (at : Stop) → Stands image is_near word last instr
+    → 4 * word ≤ image.code → length memory ≡ length first → LeadsTo image h first (hart_at image x (record { word = word; last = last })) memory
+    → Leads image word (hart x (4 * word) (word + image.limit - last)) memory (instruction_effect image (hart x (4 * word) (word + image.limit - last)) (λ r. slice_index x r) instr) (way.By by) at x' memory'
+    → image.code / 4 ≤ (word + by) % 2 ^ 64
+    → IsRun image h first (left_by (record { word = word; last = last }) by) at x' memory'
+left_by_run image is_near h first x x' word last by memory memory' instr at stands inside same so_far leads past = by_test (is_whole by) refl where
+  by_test : (b : Bool) → is_whole by ≡ b → IsRun image h first (cond b (record {
+    place = record { word = (word + by) % 2 ^ 30; last = last + (word + by) % 2 ^ 30 - word - 1 };
+    why = why.Outside;
+  }) (record { place = record { word = word; last = last }; why = why.Fault misaligned_target })) at x' memory'
+  by_test true whole =
+      let it = jumped_by image is_near x x' word last by memory memory' instr at stands leads whole in
+      let ok = stands.here.ok in
+      let far : image.code / 4 ≤ (word + by) % 2 ^ 30 = outside_code word by (image.code / 4) (omega (arith, inside)) (omega (arith, ok.code_most, ok.size_most)) whole past in record {
+        place = place_there image is_near word last ((word + by) % 2 ^ 30) stands.here it.1 (omega arith);
+        leads = leads_further image _ _ _ _ _ _ same so_far it.2;
+        ends = inr (omega (arith, far, ok.code_words));
+      }
+  by_test false odd =
+      let faults = leads.2 odd in
+      rw (faults.0, leads.1) (record {
+        place = place_here image is_near word last stands.here inside;
+        leads = so_far;
+        ends = faulting_at image is_near x word last misaligned_target instr stands faults.1;
+      })

@@ -1,5 +1,5 @@
 -- Registers, and what was written to x0.
-use Rattle.std.proofs.Common.{◌≡◌, ℕ, min, length, ◌<◌, ◌≤◌, ◌==◌, nat_lt, Bool, true, false, cond, List, take, slice_set, refl, sym, ◌∙◌, arith}
+use Rattle.std.proofs.Common.{◌≡◌, ℕ, ◌≤◌, ◌==◌, nat_lt, Bool, true, false, cond, List, take, slice_set, refl, sym, ◌∙◌, arith}
 use Rattle.std.proofs.Math.Seq.{take-set-lt}
 use Rattle.std.proofs.lemmas.Bool.Decides.{nat_tests}
 use Rattle.std.proofs.lemmas.List.{length-take, set_past, take-set-le}

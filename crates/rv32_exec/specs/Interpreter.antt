@@ -1,21 +1,18 @@
 -- What the interpreter's loop does with one instruction, and how far it has come.
-use Rattle.std.specs.Prelude.{◌≡◌, ◌⊎◌, Option, Some, None, ℕ, ◌+◌, ◌-◌, ◌*◌, ◌/◌, ◌%◌, ◌^◌, ◌<◌, ◌≤◌, Bool, false, ◌==◌, List, length, slice_index}
+use Rattle.std.specs.Prelude.{◌≡◌, ◌⊎◌, ℕ, ◌+◌, ◌-◌, ◌*◌, ◌/◌, ◌%◌, ◌^◌, ◌<◌, ◌≤◌, Bool, true, false, nat_lt, List, length, slice_index, if◌then◌else◌}
 use Rattle.rv32_exec.specs.Faults.{misaligned_target}
 use Rattle.rv32_exec.specs.declared.stop.Stop.{Stop}
 use Rattle.rv32_exec.specs.declared.stop.Stop.TheVariants as stop
-use Rattle.rv32_exec.specs.declared.access.Access.{Access}
-use Rattle.rv32_exec.specs.declared.access.Access.TheVariants.{Load, Store}
 use Rattle.rv32_exec.specs.declared.instruction.Way.{Way}
-use Rattle.rv32_exec.specs.declared.instruction.Way.TheVariants.{Following, Jump, Out, Misaligned, Unmade}
+use Rattle.rv32_exec.specs.declared.instruction.Way.TheVariants.{Following, By, To, Fault, Access}
 use Rattle.rv32_exec.specs.declared.interpreter.Left.{Left}
 use Rattle.rv32_exec.specs.declared.interpreter.Why.{Why}
 use Rattle.rv32_exec.specs.declared.interpreter.Why.TheVariants as why
 use Rattle.rv32_exec.specs.declared.interpreter.Place.{Place}
-use Rattle.memory_bytes.specs.Bytes.{IsWidth}
 use Rattle.rv32_image.specs.Decoded.{kept_of, word_in}
 use Rattle.rv32_image.specs.Image.{LoadedImage}
 use Rattle.rv32_exec.specs.Hart.{HartState}
-use Rattle.rv32_exec.specs.Execute.{Effect, Executes, Stops, hart_effect, instruction_effect, load, match_effect, store}
+use Rattle.rv32_exec.specs.Execute.{Effect, Executes, Stops, hart_effect, instruction_effect, match_effect}
 use Rattle.rv32_exec.specs.NextEvent.{next_event}
 use Rattle.rv32_exec.specs.Sequential.{Progress, Runs, after_steps, after_stop}
 
@@ -26,25 +23,6 @@ hart x pc done = record { x = x; pc = pc; done = done }
 abbrev pub after_effect : HartState → List ℕ → Effect → Progress
 after_effect h memory effect = match_effect effect (λ after. Runs after memory) (after_stop h memory)
 
--- what comes of an access that an instruction asks for
-abbrev pub access_effect : LoadedImage → HartState → Access → Effect
-access_effect image h (Load address width signed rd) = load image h width signed rd address
-access_effect image h (Store address width value) = store image h width address value
-
-abbrev pub HasWidth : Access → Type 0
-HasWidth (Load address width signed rd) = IsWidth width
-HasWidth (Store address width value) = IsWidth width
-
--- an access that is aligned, and that doesn't store into the code, is not in the first so many bytes of memory
-abbrev pub IsOutside : LoadedImage → ℕ → Access → Type 0
-IsOutside image bytes (Load address width signed rd) = address % width ≡ 0 → bytes ≤ address
-IsOutside image bytes (Store address width value) = address % width ≡ 0 → image.code ≤ address → bytes ≤ address
-
--- the effect is that of an access that is not in the first so many bytes of memory
-abbrev pub IsUnmade : LoadedImage → HartState → ℕ → Effect → Option Access → Type 0
-IsUnmade image h bytes effect None = ⊥
-IsUnmade image h bytes effect (Some access) = (effect ≡ access_effect image h access) × HasWidth access × IsOutside image bytes access
-
 -- the stop is an end or a fault
 abbrev pub IsNoAccess : Stop → Type 0
 IsNoAccess (stop.Load address width signed rd) = ⊥
@@ -52,35 +30,38 @@ IsNoAccess (stop.Store address width value) = ⊥
 IsNoAccess stop.Ended = Unit {0}
 IsNoAccess (stop.Fault cause pc) = Unit {0}
 
--- the instruction of this word, with this effect, leads to these registers and this memory, and to the place that the answer says, or to an
--- access that is not made; where there is no memory, no load or store is made
-abbrev pub Leads : LoadedImage → ℕ → HartState → List ℕ → Effect → Way → Option Access → List ℕ → List ℕ → Type 0
-Leads image word h memory effect Following unmade x memory' =
+-- the stop is an access
+abbrev pub IsAnAccess : Stop → Type 0
+IsAnAccess (stop.Load address width signed rd) = Unit {0}
+IsAnAccess (stop.Store address width value) = Unit {0}
+IsAnAccess stop.Ended = ⊥
+IsAnAccess (stop.Fault cause pc) = ⊥
+
+-- so many words on, modulo 2^64, are those of an offset that is whole words
+abbrev pub is_whole : ℕ → Bool
+is_whole by = nat_lt ((by + 2 ^ 29) % 2 ^ 64) (2 ^ 30)
+
+-- the instruction of this word, with this effect, leads to these registers and this memory, and to the word that the answer says, or it faults
+-- or stops at an access; where there is no memory, no load or store is made
+abbrev pub Leads : LoadedImage → ℕ → HartState → List ℕ → Effect → Way → Stop → List ℕ → List ℕ → Type 0
+Leads image word h memory effect Following at x memory' =
     (after_effect h memory effect ≡ Runs (hart x ((h.pc + 4) % 2 ^ 32) (h.done + 1)) memory')
     × (length memory ≡ 0 → effect ≡ Executes (hart x ((h.pc + 4) % 2 ^ 32) (h.done + 1)))
-Leads image word h memory effect (Jump by) unmade x memory' =
-    (effect ≡ Executes (hart x (4 * ((word + 1 + by) % 2 ^ 64)) (h.done + 1))) × (memory' ≡ memory)
-Leads image word h memory effect (Out to) unmade x memory' = (effect ≡ Executes (hart x (4 * to) (h.done + 1))) × (memory' ≡ memory)
-Leads image word h memory effect Misaligned unmade x memory' =
-    (x ≡ h.x) × (memory' ≡ memory) × (effect ≡ Stops (stop.Fault misaligned_target h.pc))
-Leads image word h memory effect Unmade unmade x memory' =
-    (x ≡ h.x) × (memory' ≡ memory) × IsUnmade image h (length memory) effect unmade
+Leads image word h memory effect (By by) at x memory' =
+    (is_whole by ≡ true → effect ≡ Executes (hart x (4 * ((word + by) % 2 ^ 30)) (h.done + 1))) × (memory' ≡ memory)
+    × (is_whole by ≡ false → (x ≡ h.x) × (effect ≡ Stops (stop.Fault misaligned_target h.pc)))
+Leads image word h memory effect (To to) at x memory' = (effect ≡ Executes (hart x (4 * to) (h.done + 1))) × (memory' ≡ memory)
+Leads image word h memory effect (Fault cause) at x memory' = (x ≡ h.x) × (memory' ≡ memory) × (effect ≡ Stops (stop.Fault cause h.pc))
+Leads image word h memory effect Access at x memory' =
+    (x ≡ h.x) × (memory' ≡ memory) × (effect ≡ Stops at) × IsAnAccess at × (length memory < image.size)
 
--- from this word, a jump is to one of so many words; or to one that is none of them, and has an address
-abbrev pub Lands : ℕ → ℕ → Way → Type 0
-Lands word words Following = Unit {0}
-Lands word words (Jump by) = (word + 1 + by) % 2 ^ 64 < words
-Lands word words (Out to) = (words ≤ to) × (to < 2 ^ 30)
-Lands word words Misaligned = Unit {0}
-Lands word words Unmade = Unit {0}
-
--- the answer is the way from a word to this address
-abbrev pub IsWayTo : ℕ → ℕ → Way → Type 0
-IsWayTo word address Following = ⊥
-IsWayTo word address (Jump by) = address ≡ 4 * ((word + 1 + by) % 2 ^ 64)
-IsWayTo word address (Out to) = address ≡ 4 * to
-IsWayTo word address Misaligned = (address % 4 == 0) ≡ false
-IsWayTo word address Unmade = ⊥
+-- how far a jump is: by the words of an offset, or to a word that has an address
+abbrev pub Lands : Way → Type 0
+Lands Following = Unit {0}
+Lands (By by) = (by + 2 ^ 29) % 2 ^ 64 < 2 ^ 31
+Lands (To to) = to < 2 ^ 30
+Lands (Fault cause) = Unit {0}
+Lands Access = Unit {0}
 
 -- what comes of the rest of the epoch, from this hart on
 abbrev pub rest : LoadedImage → HartState → List ℕ → Progress
@@ -102,24 +83,37 @@ pub record IsPlace (image : LoadedImage) (place : Place) : Type 0 where
   pub before_last : place.word ≤ place.last
   pub within : place.last ≤ place.word + image.limit
 
--- what is known of a hart where the loop has ended, by why
-abbrev pub IsLeft : LoadedImage → ℕ → HartState → Why → Option Access → Type 0
-IsLeft image bytes h why.Near unmade = h.pc ≤ image.code
-IsLeft image bytes h why.Outside unmade = (image.limit ≤ h.done) ⊎ (image.code ≤ h.pc)
-IsLeft image bytes h why.Trap unmade =
+-- where the loop ends with a jump by so many words that is to no word of the code
+abbrev pub left_by : Place → ℕ → Left
+left_by place by =
+    if is_whole by then record {
+      place = record { word = (place.word + by) % 2 ^ 30; last = place.last + (place.word + by) % 2 ^ 30 - place.word - 1 };
+      why = why.Outside;
+    }
+    else record { place = place; why = why.Fault misaligned_target }
+
+-- the word's instruction faults with this cause; a trap stands for a word that is refused, and after the code
+abbrev pub IsFaulting : LoadedImage → HartState → ℕ → Type 0
+IsFaulting image h cause =
     (h.pc < image.code → h.done < image.limit)
-    × (instruction_effect image h (λ r. slice_index h.x r) (kept_of (word_in image (h.pc / 4))) ≡ Stops (stop.Fault misaligned_target h.pc))
-IsLeft image bytes h why.Unmade unmade = IsUnmade image h bytes (hart_effect image h) unmade
+    × (instruction_effect image h (λ r. slice_index h.x r) (kept_of (word_in image (h.pc / 4))) ≡ Stops (stop.Fault cause h.pc))
+
+-- what is known of a hart where the loop has ended, by why
+abbrev pub IsLeft : LoadedImage → ℕ → HartState → Why → Stop → Type 0
+IsLeft image bytes h why.Near at = h.pc ≤ image.code
+IsLeft image bytes h why.Outside at = (image.limit ≤ h.done) ⊎ (image.code ≤ h.pc)
+IsLeft image bytes h (why.Fault cause) at = IsFaulting image h cause
+IsLeft image bytes h why.Access at = (hart_effect image h ≡ Stops at) × (bytes < image.size)
 
 -- the hart has come to its stop, but for the limit
 abbrev pub IsFar : Why → Type 0
 IsFar why.Near = ⊥
 IsFar why.Outside = Unit {0}
-IsFar why.Trap = Unit {0}
-IsFar why.Unmade = Unit {0}
+IsFar (why.Fault cause) = Unit {0}
+IsFar why.Access = Unit {0}
 
 -- a run of the loop leads from a hart to these registers and this memory, to where it has ended
-pub record IsRun (image : LoadedImage) (h : HartState) (memory : List ℕ) (left : Left) (unmade : Option Access) (x memory' : List ℕ) : Type 0 where
+pub record IsRun (image : LoadedImage) (h : HartState) (memory : List ℕ) (left : Left) (at : Stop) (x memory' : List ℕ) : Type 0 where
   pub place : IsPlace image left.place
   pub leads : LeadsTo image h memory (hart_at image x left.place) memory'
-  pub ends : IsLeft image (length memory) (hart_at image x left.place) left.why unmade
+  pub ends : IsLeft image (length memory) (hart_at image x left.place) left.why at

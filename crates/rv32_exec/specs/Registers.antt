@@ -1,5 +1,5 @@
 -- Registers as they are kept.
-use Rattle.std.proofs.Common.{◌≡◌, ℕ, ◌+◌, List, [], ◌∷◌, ◌++◌, length, take, slice_index, ◌∙◌, sym, arith}
+use Rattle.std.proofs.Common.{◌≡◌, ℕ, List, [], ◌∷◌, ◌++◌, length, take, slice_index, ◌∙◌, sym, arith}
 use Rattle.std.proofs.lemmas.List.{take_all, take_more}
 
 -- the registers, and what was written to x0

@@ -1,73 +1,8 @@
-ghost use Rattle.std.specs.Prelude.{◌≡◌, ◌<◌, ◌^◌, ℕ, List};
+ghost use Rattle.std.specs.Prelude.{◌≡◌, ◌<◌, ◌^◌};
 ghost use Rattle.memory_bytes.specs.Bytes.{IsWidth};
-ghost use Rattle.rv32_exec.specs.Execute.{Stops, extended};
-ghost use Rattle.rv32_exec.specs.Interpreter as spec;
+ghost use Rattle.rv32_exec.specs.Execute.{extended};
 
-use crate::stop::{LOAD_OUTSIDE_MEMORY, MISALIGNED_DATA, STORE_OUTSIDE_DATA, Stop};
-use memory_bytes::low_bytes;
-use rv32_decode::Destination;
-use rv32_image::Image;
-
-/// An access to data as an instruction asks for it, wherever it lies.
-#[derive(Clone, Copy)]
-pub(crate) enum Access {
-    /// A load of `width` bytes into `rd`, with sign extension where `signed`.
-    Load {
-        addr: u32,
-        width: u32,
-        signed: bool,
-        rd: Destination,
-    },
-    /// A store of the low `width` bytes of `value`.
-    Store {
-        addr: u32,
-        width: u32,
-        value: u32,
-    },
-}
-
-impl Access {
-    /// Where a hart at this pc stops at the access: there, or at its fault.
-    pub(crate) fn stop(self, image: &Image, pc: u32) -> Stop
-        requires { spec.HasWidth self }
-        ensures { (x : List ℕ) (done : ℕ) → spec.access_effect image.now (spec.hart x pc done) self ≡ Stops result }
-    {
-        match self {
-            Access::Load {
-                addr,
-                width,
-                signed,
-                rd,
-            } => {
-                if addr % width != 0 {
-                    return fault(MISALIGNED_DATA, pc);
-                }
-                if addr >= image.size() {
-                    return fault(LOAD_OUTSIDE_MEMORY, pc);
-                }
-                Stop::Load {
-                    addr,
-                    width,
-                    signed,
-                    rd: rd.register(),
-                }
-            }
-            Access::Store { addr, width, value } => {
-                if addr % width != 0 {
-                    return fault(MISALIGNED_DATA, pc);
-                }
-                if addr >= image.size() || addr < image.code() {
-                    return fault(STORE_OUTSIDE_DATA, pc);
-                }
-                Stop::Store {
-                    addr,
-                    width,
-                    value: low_bytes(width, value),
-                }
-            }
-        }
-    }
-}
+use crate::stop::Stop;
 
 /// A fault with this cause, at this pc.
 pub(crate) fn fault(cause: u32, pc: u32) -> Stop

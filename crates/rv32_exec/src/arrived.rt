@@ -76,6 +76,19 @@ impl Arrived {
         hart.go_on();
     }
 
+    /// Runs on the hart that has come so far.
+    #[inline]
+    fn run(&mut self, image: &Image)
+        ensures base { self.new.base ≡ self.old.base }
+        ensures now { self.new.now ≡ (next_event image.now self.old.now).now }
+        ensures at { self.new.at ≡ (next_event image.now self.old.now).at }
+        ensures stop { IsStopOf image.now self.new.now self.new.at }
+        ensures later { self.old.now.done ≤ self.new.now.done }
+    {
+        let Arrived { now, at, .. } = self;
+        run_on(image, now, at);
+    }
+
     /// Advances from this hart, in place of what was there.
     pub fn advance_from(&mut self, image: &Image, hart: &Hart)
         ensures base { self.new.base ≡ hart.now }
@@ -87,7 +100,7 @@ impl Arrived {
         let Arrived { base, now, at } = self;
         base.copy_from(hart);
         now.copy_from(hart);
-        *at = run_on(image, now);
+        run_on(image, now, at);
     }
 
     /// Makes the load at which it stopped, and advances from there. `number` is that of the bytes that are loaded, little
@@ -103,7 +116,7 @@ impl Arrived {
         let Arrived { base, now, at } = self;
         complete_load(now, *at, number);
         base.copy_from(now);
-        *at = run_on(image, now);
+        run_on(image, now, at);
     }
 
     /// Makes the store at which it stopped, and advances from there.
@@ -118,7 +131,7 @@ impl Arrived {
         let Arrived { base, now, at } = self;
         now.go_on();
         base.copy_from(now);
-        *at = run_on(image, now);
+        run_on(image, now, at);
     }
 }
 
@@ -130,22 +143,25 @@ pub fn advance(image: &Image, hart: Hart) -> Arrived
     ensures stop { IsStopOf image.now result.now result.at }
     ensures later { hart.done ≤ result.now.done }
 {
-    let base = hart;
-    let mut now = hart;
-    let at = run_on(image, &mut now);
-    Arrived { base, now, at }
+    let mut arrived = Arrived {
+        base: hart,
+        now: hart,
+        at: Stop::Ended,
+    };
+    arrived.run(image);
+    arrived
 }
 
-/// Runs a hart on, and answers where it stops.
-fn run_on(image: &Image, hart: &mut Hart) -> Stop
+/// Runs a hart on, and sets `at` to where it stops.
+fn run_on(image: &Image, hart: &mut Hart, at: &mut Stop)
     ensures now { hart.new ≡ (next_event image.now hart.old).now }
-    ensures at { result ≡ (next_event image.now hart.old).at }
-    ensures stop { IsStopOf image.now hart.new result }
-    ensures room { spec.HasRoom hart.new result }
+    ensures at { at.new ≡ (next_event image.now hart.old).at }
+    ensures stop { IsStopOf image.now hart.new at.new }
+    ensures room { spec.HasRoom hart.new at.new }
     ensures later { hart.old.done ≤ hart.new.done }
 {
     // With no memory at hand it stops at an access to data.
-    hart.run(image, &mut [])
+    hart.run(image, &mut [], at);
 }
 
 /// The hart after the load at which it stopped. `number` is that of the bytes that were loaded, little endian; its
@@ -155,7 +171,7 @@ pub fn loaded(arrived: &Arrived, number: u32) -> Hart
     ensures { result ≡ spec.after_loading arrived.entry.now number }
 {
     let mut hart = arrived.now;
-    arrived.set_loaded(number, &mut hart);
+    complete_load(&mut hart, arrived.at, number);
     hart
 }
 
@@ -182,7 +198,7 @@ pub fn stored(arrived: &Arrived) -> Hart
     requires { spec.IsAtStore arrived.now.at }
     ensures { result ≡ stepped arrived.entry.now.now }
 {
-    let mut hart = arrived.now;
-    arrived.set_stored(&mut hart);
-    hart
+    let mut after = arrived.now;
+    after.go_on();
+    after
 }

@@ -1,12 +1,13 @@
-ghost use Rattle.std.specs.Prelude.{◌≡◌, ◌<◌, ◌≤◌, ◌+◌, ◌%◌, ◌^◌, length, slice_index};
+ghost use Rattle.std.specs.Prelude.{◌≡◌, ◌<◌, ◌≤◌, ◌+◌, ◌*◌, ◌%◌, ◌^◌, false, true, length, slice_index};
 ghost use Rattle.rv32_exec.specs.Hart as spec;
 ghost use Rattle.rv32_exec.specs.Execute.{Stops, after_load, hart_effect};
-ghost use Rattle.rv32_exec.specs.Interpreter.{IsNoAccess, LeadsTo};
+ghost use Rattle.rv32_exec.specs.Interpreter.{IsFar, IsLeft, IsNoAccess, IsPlace, LeadsTo, hart_at};
 ghost use Rattle.rv32_exec.specs.Sequential.{exits};
 ghost use Rattle.memory_bytes.specs.Bytes.{IsWidth};
 
 use crate::access::extend;
-use crate::interpreter::run;
+use crate::instruction::address;
+use crate::interpreter::{Place, Why, run_code, stop, stop_outside};
 use crate::registers::Registers;
 use crate::stop::{EPOCH_END, Stop};
 use rv32_decode::{Destination, Register};
@@ -104,7 +105,7 @@ impl Hart {
     pub(crate) fn copy_from(&mut self, other: &Hart)
         ensures { self.new ≡ other.now }
     {
-        self.x = other.x;
+        self.x.copy_from(&other.x);
         self.pc = other.pc;
         self.done = other.done;
     }
@@ -141,22 +142,97 @@ impl Hart {
         self.write(rd, extend(width, signed, number));
     }
 
-    /// Runs it over memory up to its next stop. `bytes` is memory from address 0 on as far as it is at hand: it stops at a
-    /// load or a store past it.
-    pub(crate) fn run(&mut self, image: &Image, bytes: &mut [u8]) -> Stop
+    /// Runs it over memory up to its next stop, and sets `at` to that. `bytes` is memory from address 0 on as far as it is at hand: it
+    /// stops at a load or a store past it.
+    #[inline]
+    pub(crate) fn run(&mut self, image: &Image, bytes: &mut [u8], at: &mut Stop)
         requires size { length bytes.old ≤ image.now.size }
         requires words { length bytes.old % 4 ≡ 0 }
-        ensures stop { hart_effect image.now self.new ≡ Stops result }
-        ensures whole { length bytes.old ≡ image.now.size → IsNoAccess result }
+        ensures stop { hart_effect image.now self.new ≡ Stops at.new }
+        ensures whole { length bytes.old ≡ image.now.size → IsNoAccess at.new }
         ensures leads { LeadsTo image.now self.old bytes.old self.new bytes.new }
         ensures limit { image.now.limit ≤ 1000000 }
     {
-        let halt = run(image, &mut self.x, self.pc, self.done, bytes);
-        self.x.look();
+        let (pc, done) = (self.pc, self.done);
+        if done > u64::from(image.limit()) || pc > image.code() {
+            *at = stop_outside(image, pc, done);
+            return;
+        }
+        self.run_far(image, at, (pc / 4) as usize, bytes);
+    }
+
+    /// The same of a hart that has come to this word. Up to where the limit is near, only a jump has to look for it: each run through
+    /// the code ends before the limit.
+    #[inline(never)]
+    fn run_far(&mut self, image: &Image, at: &mut Stop, word: usize, bytes: &mut [u8])
+        requires word { 4 * word ≡ self.old.pc }
+        requires code { self.old.pc ≤ image.now.code }
+        requires limit { self.old.done ≤ image.now.limit }
+        requires size { length bytes.old ≤ image.now.size }
+        requires words { length bytes.old % 4 ≡ 0 }
+        ensures stop { hart_effect image.now self.new ≡ Stops at.new }
+        ensures whole { length bytes.old ≡ image.now.size → IsNoAccess at.new }
+        ensures leads { LeadsTo image.now self.old bytes.old self.new bytes.new }
+    {
+        let done = self.done;
+        let from = Place::of(image, word, done);
+        if from.is_near(image) {
+            return self.run_near(image, at, word, bytes);
+        }
+        let why = self.run_from(from, image, at, false, bytes);
+        let (pc, done) = (self.pc, self.done);
+        if let Why::Near = why {
+            return self.run_near(image, at, (pc / 4) as usize, bytes);
+        }
+        stop(image, pc, done, why, at);
+    }
+
+    /// The same, where the limit may come before the end of the code.
+    #[inline(never)]
+    fn run_near(&mut self, image: &Image, at: &mut Stop, word: usize, bytes: &mut [u8])
+        requires word { 4 * word ≡ self.old.pc }
+        requires code { self.old.pc ≤ image.now.code }
+        requires limit { self.old.done ≤ image.now.limit }
+        requires size { length bytes.old ≤ image.now.size }
+        requires words { length bytes.old % 4 ≡ 0 }
+        ensures stop { hart_effect image.now self.new ≡ Stops at.new }
+        ensures whole { length bytes.old ≡ image.now.size → IsNoAccess at.new }
+        ensures leads { LeadsTo image.now self.old bytes.old self.new bytes.new }
+    {
+        let done = self.done;
+        let from = Place::of(image, word, done);
+        let why = self.run_from(from, image, at, true, bytes);
+        let (pc, done) = (self.pc, self.done);
+        stop(image, pc, done, why, at);
+    }
+
+    /// Runs the loop over the code, from the place where it is, and answers why that has ended.
+    #[inline(always)]
+    fn run_from(
+        &mut self,
+        from: Place,
+        image: &Image,
+        at: &mut Stop,
+        is_near: bool,
+        bytes: &mut [u8],
+    ) -> Why
+        requires from { hart_at image.now self.old.x from ≡ self.old }
+        requires place { IsPlace image.now from }
+        requires in_code { 4 * from.word ≤ image.now.code }
+        requires near { is_near ≡ false → image.now.code ≤ 4 * from.last }
+        requires size { length bytes.old ≤ image.now.size }
+        requires words { length bytes.old % 4 ≡ 0 }
+        ensures left { IsLeft image.now (length bytes.old) self.new result at.new }
+        ensures leads { LeadsTo image.now self.old bytes.old self.new bytes.new }
+        ensures far { is_near ≡ true → IsFar result }
+    {
+        let left = run_code(image, &mut self.x, from, is_near, bytes, at);
         self.x.settle();
-        self.pc = halt.pc;
-        self.done = halt.done;
-        halt.at
+        self.x.look();
+        let (pc, done) = (address(&self.x, left.place.word), left.place.done(image));
+        self.pc = pc;
+        self.done = done;
+        left.why
     }
 }
 

@@ -1,12 +1,16 @@
-ghost use Rattle.std.specs.Prelude.{◌≡◌, ◌<◌, ◌≤◌, ◌*◌, ◌/◌, ◌%◌, ◌^◌, ℕ, List, Option, length, slice_index};
+ghost use Rattle.std.specs.Prelude.{◌≡◌, ◌+◌, ◌<◌, ◌≤◌, ◌*◌, ◌/◌, ◌%◌, ◌^◌, ℕ, List, length, slice_index};
 ghost use Rattle.rv32_exec.specs.Interpreter as spec;
 ghost use Rattle.rv32_image.specs.Image.{LoadedImage};
 ghost use Rattle.rv32_exec.specs.Hart.{with_register};
 ghost use Rattle.rv32_exec.specs.Execute.{add, instruction_effect, jump as jump_effect, branch as branch_effect, load as load_effect, store as store_effect};
+ghost use Rattle.rv32_exec.specs.declared.stop.Stop.{Stop};
 ghost use Rattle.memory_bytes.specs.Bytes.{IsWidth};
 
-use crate::access::{Access, extend};
+use crate::access::extend;
 use crate::registers::Registers;
+use crate::stop::{
+    LOAD_OUTSIDE_MEMORY, MISALIGNED_DATA, MISALIGNED_TARGET, STORE_OUTSIDE_DATA, Stop,
+};
 use memory_bytes::{low_bytes, read_number, write_number};
 use rv32_decode::{Destination, Instr, Offset, Register};
 use rv32_image::Image;
@@ -16,47 +20,47 @@ use rv32_image::Image;
 pub(crate) enum Way {
     /// To the instruction that follows.
     Following,
-    /// To one of the code that is so many words on from the one that follows, modulo 2^64.
-    Jump(usize),
-    /// To this word, which is none of the code.
-    Out(usize),
-    /// Nowhere: its target is misaligned, and nothing has changed.
-    Misaligned,
+    /// So many words on, modulo 2^64: those of an offset, which may be no whole words. Then it faults, and nothing has changed.
+    By(usize),
+    /// To this word.
+    To(usize),
+    /// Nowhere: it faults with this cause, and nothing has changed.
+    Fault(u32),
     /// Nowhere: its access is not made, and nothing has changed.
-    Unmade,
+    Access,
 }
 
-/// Executes the instruction at a word of a code of so many words. A load or a store is made where it is aligned and in `bytes`,
-/// the first bytes of memory, and no store into the code; else `unmade` is that access.
+/// Executes the instruction at a word. A load or a store is made where it is aligned and in `bytes`, the first bytes of memory, and
+/// no store into the code; else the hart faults, or stops at that access, which `at` then is.
 #[inline(always)]
 #[rattlefmt::skip]
 #[tactic(auto, unfolding(crate::specs::Execute::instruction_effect))]
-pub(crate) fn execute(instr: &Instr, word: usize, words: usize, image: &Image, x: &mut Registers, bytes: &mut [u8], unmade: &mut Option<Access>) -> Way
-    requires place { (word ≤ words) × (words < 2 ^ 28) }
+pub(crate) fn execute(instr: &Instr, word: usize, image: &Image, x: &mut Registers, bytes: &mut [u8], at: &mut Stop) -> Way
+    requires address { 4 * word < 2 ^ 32 }
     requires size { length bytes.old ≤ image.now.size }
     requires in_words { length bytes.old % 4 ≡ 0 }
-    ensures leads { (done : ℕ) → spec.Leads image.now word (spec.hart x.old.x (4 * word) done) bytes.old (instruction_effect image.now (spec.hart x.old.x (4 * word) done) (λ r. slice_index x.old.x r) instr.now) result unmade.new x.new.x bytes.new }
-    ensures lands { spec.Lands word words result }
+    ensures leads { (done : ℕ) → spec.Leads image.now word (spec.hart x.old.x (4 * word) done) bytes.old (instruction_effect image.now (spec.hart x.old.x (4 * word) done) (λ r. slice_index x.old.x r) instr.now) result at.new x.new.x bytes.new }
+    ensures lands { spec.Lands result }
 {
     match *instr {
         Instr::Lui { rd, imm } => write(x, rd, imm),
         Instr::Auipc { rd, imm } => write(x, rd, address(x, word).wrapping_add(imm)),
-        Instr::Jal { rd, offset } => link(x, word, rd, go_by(word, words, offset)),
-        Instr::Jalr { rd, rs1, imm } => link(x, word, rd, go_to(word, words, x.plus(rs1, imm) / 2 * 2)),
-        Instr::Beq { rs1, rs2, offset } => branch(x.get(rs1) == x.get(rs2), word, words, offset),
-        Instr::Bne { rs1, rs2, offset } => branch(x.get(rs1) != x.get(rs2), word, words, offset),
-        Instr::Blt { rs1, rs2, offset } => branch(x.is_less_signed(rs1, rs2), word, words, offset),
-        Instr::Bge { rs1, rs2, offset } => branch(!x.is_less_signed(rs1, rs2), word, words, offset),
-        Instr::Bltu { rs1, rs2, offset } => branch(x.is_less(rs1, rs2), word, words, offset),
-        Instr::Bgeu { rs1, rs2, offset } => branch(!x.is_less(rs1, rs2), word, words, offset),
-        Instr::Lb { rd, rs1, imm } => load(bytes, unmade, x, x.plus(rs1, imm), 1, true, rd),
-        Instr::Lh { rd, rs1, imm } => load(bytes, unmade, x, x.plus(rs1, imm), 2, true, rd),
-        Instr::Lw { rd, rs1, imm } => load(bytes, unmade, x, x.plus(rs1, imm), 4, false, rd),
-        Instr::Lbu { rd, rs1, imm } => load(bytes, unmade, x, x.plus(rs1, imm), 1, false, rd),
-        Instr::Lhu { rd, rs1, imm } => load(bytes, unmade, x, x.plus(rs1, imm), 2, false, rd),
-        Instr::Sb { rs1, rs2, imm } => store(image, bytes, unmade, x.plus(rs1, imm), 1, x.get(rs2)),
-        Instr::Sh { rs1, rs2, imm } => store(image, bytes, unmade, x.plus(rs1, imm), 2, x.get(rs2)),
-        Instr::Sw { rs1, rs2, imm } => store(image, bytes, unmade, x.plus(rs1, imm), 4, x.get(rs2)),
+        Instr::Jal { rd, offset } => jump(x, word, rd, offset),
+        Instr::Jalr { rd, rs1, imm } => jump_register(x, word, rd, x.plus(rs1, imm) / 2 * 2),
+        Instr::Beq { rs1, rs2, offset } => branch(x, x.get(rs1) == x.get(rs2), offset),
+        Instr::Bne { rs1, rs2, offset } => branch(x, x.get(rs1) != x.get(rs2), offset),
+        Instr::Blt { rs1, rs2, offset } => branch(x, x.is_less_signed(rs1, rs2), offset),
+        Instr::Bge { rs1, rs2, offset } => branch(x, !x.is_less_signed(rs1, rs2), offset),
+        Instr::Bltu { rs1, rs2, offset } => branch(x, x.is_less(rs1, rs2), offset),
+        Instr::Bgeu { rs1, rs2, offset } => branch(x, !x.is_less(rs1, rs2), offset),
+        Instr::Lb { rd, rs1, imm } => load(image, bytes, at, x, x.plus(rs1, imm), 1, true, rd),
+        Instr::Lh { rd, rs1, imm } => load(image, bytes, at, x, x.plus(rs1, imm), 2, true, rd),
+        Instr::Lw { rd, rs1, imm } => load(image, bytes, at, x, x.plus(rs1, imm), 4, false, rd),
+        Instr::Lbu { rd, rs1, imm } => load(image, bytes, at, x, x.plus(rs1, imm), 1, false, rd),
+        Instr::Lhu { rd, rs1, imm } => load(image, bytes, at, x, x.plus(rs1, imm), 2, false, rd),
+        Instr::Sb { rs1, rs2, imm } => store(image, bytes, at, x.plus(rs1, imm), 1, x.get(rs2)),
+        Instr::Sh { rs1, rs2, imm } => store(image, bytes, at, x.plus(rs1, imm), 2, x.get(rs2)),
+        Instr::Sw { rs1, rs2, imm } => store(image, bytes, at, x.plus(rs1, imm), 4, x.get(rs2)),
         Instr::Addi { rd, rs1, imm } => write(x, rd, x.plus(rs1, imm)),
         Instr::Slti { rd, rs1, imm } => write(x, rd, u32::from(x.get(rs1).cast_signed() < imm.cast_signed())),
         Instr::Sltiu { rd, rs1, imm } => write(x, rd, u32::from(x.get(rs1) < imm)),
@@ -92,7 +96,7 @@ fn write(x: &mut Registers, rd: Destination, value: u32) -> Way
 
 /// The address of a word of this number.
 #[inline]
-fn address(x: &Registers, word: usize) -> u32
+pub(crate) fn address(x: &Registers, word: usize) -> u32
     requires { 4 * word < 2 ^ 32 }
     ensures { result ≡ 4 * word }
 {
@@ -102,7 +106,7 @@ fn address(x: &Registers, word: usize) -> u32
 
 /// The number itself.
 #[inline]
-fn exclusive_or_x0(x: &Registers, number: u32) -> u32
+pub(crate) fn exclusive_or_x0(x: &Registers, number: u32) -> u32
     ensures { result ≡ number }
 {
     x.look();
@@ -111,79 +115,65 @@ fn exclusive_or_x0(x: &Registers, number: u32) -> u32
 
 /// By this offset where the branch is taken.
 #[inline]
-fn branch(taken: bool, word: usize, words: usize, offset: Offset) -> Way
-    requires place { (word ≤ words) × (words < 2 ^ 28) }
-    ensures leads { (image : LoadedImage) (done : ℕ) (x memory : List ℕ) (unmade : Option Access) → spec.Leads image word (spec.hart x (4 * word) done) memory (branch_effect (spec.hart x (4 * word) done) taken offset) result unmade x memory }
-    ensures lands { spec.Lands word words result }
+fn branch(x: &mut Registers, taken: bool, offset: Offset) -> Way
+    ensures leads { (image : LoadedImage) (word done : ℕ) (memory : List ℕ) (at : Stop) → 4 * word < 2 ^ 32
+        → spec.Leads image word (spec.hart x.old.x (4 * word) done) memory (branch_effect (spec.hart x.old.x (4 * word) done) taken offset) result at x.new.x memory }
+    ensures lands { spec.Lands result }
 {
     if taken {
-        go_by(word, words, offset)
+        // It changes no register. With a write on one way, LLVM branches, and doesn't work out both ways first.
+        x.settle();
+        Way::By(offset.words_on())
     } else {
         Way::Following
     }
 }
 
-/// Writes the link where the way of a jump leads on.
+/// By this offset, with the link written, unless it is no whole words.
 #[inline]
-fn link(x: &mut Registers, word: usize, rd: Destination, way: Way) -> Way
-    requires address { 4 * word < 2 ^ 32 }
-    ensures leads { (image : LoadedImage) (target done : ℕ) (memory : List ℕ) (unmade : Option Access) → spec.IsWayTo word target way → spec.Leads image word (spec.hart x.old.x (4 * word) done) memory (jump_effect (spec.hart x.old.x (4 * word) done) rd target) result unmade x.new.x memory }
-    ensures way { result ≡ way }
-{
-    if matches!(way, Way::Jump(_) | Way::Out(_)) {
-        x.put(rd, address(x, word).wrapping_add(4));
-    }
-    way
-}
-
-/// From a word to that at this offset.
-#[inline]
-fn go_by(word: usize, words: usize, offset: Offset) -> Way
-    requires place { (word ≤ words) × (words < 2 ^ 28) }
-    ensures way { spec.IsWayTo word (add (4 * word) offset) result }
-    ensures lands { spec.Lands word words result }
+fn jump(x: &mut Registers, word: usize, rd: Destination, offset: Offset) -> Way
+    requires { 4 * word < 2 ^ 32 }
+    ensures leads { (image : LoadedImage) (done : ℕ) (memory : List ℕ) (at : Stop) → spec.Leads image word (spec.hart x.old.x (4 * word) done) memory
+        (jump_effect (spec.hart x.old.x (4 * word) done) rd (add (4 * word) offset)) result at x.new.x memory }
+    ensures lands { spec.Lands result }
 {
     let by = offset.words_on();
-    if (word + 1).wrapping_add(by) < words {
-        return Way::Jump(by);
+    if !is_whole(by) {
+        return Way::Fault(MISALIGNED_TARGET);
     }
-    go_out((4 * word as u32).wrapping_add(offset.bytes()), words)
+    x.put(rd, address(x, word).wrapping_add(4));
+    Way::By(by)
 }
 
-/// From a word to that at an address.
+/// Whether so many words on, modulo 2^64, are those of an offset that is whole words.
 #[inline]
-fn go_to(word: usize, words: usize, target: u32) -> Way
-    requires place { (word ≤ words) × (words < 2 ^ 28) }
-    ensures way { spec.IsWayTo word target result }
-    ensures lands { spec.Lands word words result }
+pub(crate) fn is_whole(by: usize) -> bool
+    ensures { result ≡ spec.is_whole by }
 {
-    let to = (target / 4) as usize;
-    if target % 4 == 0 && to < words {
-        return Way::Jump(to.wrapping_sub(word + 1));
-    }
-    go_out(target, words)
+    by.wrapping_add(1 << 29) < 1 << 30
 }
 
-/// To the word at an address, which is none of a code of so many words.
+/// To the word at this address, with the link written, unless it is misaligned.
 #[inline]
-fn go_out(target: u32, words: usize) -> Way
-    requires { target % 4 ≡ 0 → words ≤ target / 4 }
-    ensures way { (word : ℕ) → spec.IsWayTo word target result }
-    ensures lands { (word : ℕ) → spec.Lands word words result }
+fn jump_register(x: &mut Registers, word: usize, rd: Destination, target: u32) -> Way
+    requires { 4 * word < 2 ^ 32 }
+    ensures leads { (image : LoadedImage) (done : ℕ) (memory : List ℕ) (at : Stop) → spec.Leads image word (spec.hart x.old.x (4 * word) done) memory
+        (jump_effect (spec.hart x.old.x (4 * word) done) rd target) result at x.new.x memory }
+    ensures lands { spec.Lands result }
 {
-    if target % 4 == 0 {
-        Way::Out((target / 4) as usize)
-    } else {
-        Way::Misaligned
+    if target % 4 != 0 {
+        return Way::Fault(MISALIGNED_TARGET);
     }
+    x.put(rd, address(x, word).wrapping_add(4));
+    Way::To((target / 4) as usize)
 }
 
-/// Loads the number of this width at the address into the register, unless it is misaligned or past these bytes; `unmade` is then
-/// that load.
+/// Loads the number of this width at the address into the register, unless it faults or is past these bytes; `at` is then that load.
 #[inline(always)]
 fn load(
+    image: &Image,
     bytes: &[u8],
-    unmade: &mut Option<Access>,
+    at: &mut Stop,
     x: &mut Registers,
     addr: u32,
     width: u32,
@@ -191,45 +181,57 @@ fn load(
     rd: Destination,
 ) -> Way
     requires width { IsWidth width }
+    requires size { length bytes.now ≤ image.now.size }
     requires in_words { length bytes.now % 4 ≡ 0 }
-    ensures leads { (image : LoadedImage) (word pc done : ℕ) → length bytes.now ≤ image.size → spec.Leads image word (spec.hart x.old.x pc done) bytes.now (load_effect image (spec.hart x.old.x pc done) width signed rd addr) result unmade.new x.new.x bytes.now }
-    ensures lands { (word words : ℕ) → spec.Lands word words result }
+    ensures leads { (word pc done : ℕ) → spec.Leads image.now word (spec.hart x.old.x pc done) bytes.now (load_effect image.now (spec.hart x.old.x pc done) width signed rd addr) result at.new x.new.x bytes.now }
+    ensures lands { spec.Lands result }
 {
     let place = addr as usize;
-    if place % width as usize != 0 || place >= bytes.len() {
-        *unmade = Some(Access::Load {
+    if place % width as usize != 0 {
+        return Way::Fault(MISALIGNED_DATA);
+    }
+    if place >= bytes.len() {
+        if addr >= image.size() {
+            return Way::Fault(LOAD_OUTSIDE_MEMORY);
+        }
+        *at = Stop::Load {
             addr,
             width,
             signed,
-            rd,
-        });
-        return Way::Unmade;
+            rd: rd.register(),
+        };
+        return Way::Access;
     }
     x.put(rd, extend(width, signed, read_number(bytes, place, width)));
     Way::Following
 }
 
-/// Stores the low `width` bytes of the value, unless the address is misaligned, past these bytes or in the code; `unmade` is then
-/// that store.
+/// Stores the low `width` bytes of the value, unless it faults or is past these bytes; `at` is then that store.
 #[inline(always)]
-fn store(
-    image: &Image,
-    bytes: &mut [u8],
-    unmade: &mut Option<Access>,
-    addr: u32,
-    width: u32,
-    value: u32,
-) -> Way
+fn store(image: &Image, bytes: &mut [u8], at: &mut Stop, addr: u32, width: u32, value: u32) -> Way
     requires width { IsWidth width }
     requires size { length bytes.old ≤ image.now.size }
     requires in_words { length bytes.old % 4 ≡ 0 }
-    ensures leads { (word pc done : ℕ) (x : List ℕ) → spec.Leads image.now word (spec.hart x pc done) bytes.old (store_effect image.now (spec.hart x pc done) width addr value) result unmade.new x bytes.new }
-    ensures lands { (word words : ℕ) → spec.Lands word words result }
+    ensures leads { (word pc done : ℕ) (x : List ℕ) → spec.Leads image.now word (spec.hart x pc done) bytes.old (store_effect image.now (spec.hart x pc done) width addr value) result at.new x bytes.new }
+    ensures lands { spec.Lands result }
 {
     let place = addr as usize;
-    if place % width as usize != 0 || place >= bytes.len() || place < image.code() as usize {
-        *unmade = Some(Access::Store { addr, width, value });
-        return Way::Unmade;
+    if place % width as usize != 0 {
+        return Way::Fault(MISALIGNED_DATA);
+    }
+    if place >= bytes.len() {
+        if addr >= image.size() || addr < image.code() {
+            return Way::Fault(STORE_OUTSIDE_DATA);
+        }
+        *at = Stop::Store {
+            addr,
+            width,
+            value: low_bytes(width, value),
+        };
+        return Way::Access;
+    }
+    if place < image.code() as usize {
+        return Way::Fault(STORE_OUTSIDE_DATA);
     }
     write_number(bytes, place, width, low_bytes(width, value));
     Way::Following

@@ -4,42 +4,48 @@ ghost use Rattle.rv32_exec.specs.Execute.{Stops, hart_effect, instruction_effect
 ghost use Rattle.rv32_exec.specs.Faults.{misaligned_target};
 ghost use Rattle.rv32_exec.specs.Interpreter as spec;
 
-use crate::access::{Access, fault};
-use crate::instruction::{Way, execute};
+use crate::access::fault;
+use crate::instruction::{Way, address, execute, is_whole};
 use crate::registers::Registers;
 use crate::stop::*;
 use rv32_decode::Refused;
 use rv32_image::Image;
 
-/// Where a run has stopped: the pc, how many instructions of the epoch are executed, and the stop.
-#[derive(Drop)]
-pub(crate) struct Halt {
-    pub pc: u32,
-    pub done: u64,
-    pub at: Stop,
-}
-
 /// How far a run has come: the number of the word that is next, and of that where it would meet the limit if nothing
 /// jumps.
 #[derive(Clone, Copy)]
 pub(crate) struct Place {
-    word: usize,
-    last: usize,
+    pub word: usize,
+    pub last: usize,
 }
 
 impl Place {
-    /// The address of the word.
+    /// The place of a hart that is to execute this word, and has executed so many instructions.
     #[inline]
-    fn address(self) -> u32
-        requires { 4 * self.word < 2 ^ 32 }
-        ensures { result ≡ 4 * self.word }
+    pub(crate) fn of(image: &Image, word: usize, done: u64) -> Place
+        requires word { 4 * word ≤ image.now.code }
+        requires done { done ≤ image.now.limit }
+        ensures word { result.word ≡ word }
+        ensures last { result.last ≡ word + image.now.limit - done }
+        ensures place { spec.IsPlace image.now result }
     {
-        4 * self.word as u32
+        Place {
+            word,
+            last: word + image.limit() as usize - done as usize,
+        }
+    }
+
+    /// Whether the limit may come before the end of the code.
+    #[inline]
+    pub(crate) fn is_near(self, image: &Image) -> bool
+        ensures { result ≡ false → image.now.code ≤ 4 * self.last }
+    {
+        self.last < (image.code() / 4) as usize
     }
 
     /// How many instructions of the epoch are executed.
     #[inline]
-    fn done(self, image: &Image) -> u64
+    pub(crate) fn done(self, image: &Image) -> u64
         requires { spec.IsPlace image.now self }
         ensures { result ≡ self.word + image.now.limit - self.last }
     {
@@ -53,6 +59,23 @@ impl Place {
     {
         Left { place: self, why }
     }
+
+    /// Where the loop ends with a jump by so many words, which is to no word of the code.
+    #[inline]
+    fn left_by(self, x: &Registers, by: usize) -> Left
+        requires address { 4 * self.word < 2 ^ 32 }
+        requires room { spec.is_whole by ≡ true → self.word < self.last }
+        requires last { self.last < 2 ^ 31 }
+        ensures { result ≡ spec.left_by self by }
+    {
+        if !is_whole(by) {
+            return self.left(Why::Fault(MISALIGNED_TARGET));
+        }
+        let distance = 4 * (by % (1 << 30)) as u32;
+        let word = (address(x, self.word).wrapping_add(distance) / 4) as usize;
+        let last = last_at(self.last, self.word, word);
+        Place { word, last }.left(Why::Outside)
+    }
 }
 
 /// Why the loop over the code has ended.
@@ -62,193 +85,116 @@ pub(crate) enum Why {
     Near,
     /// The limit is met, or the word is none of the code.
     Outside,
-    /// The word is refused or is a jump whose target is misaligned, or the code is at its end.
-    Trap,
+    /// The word's instruction faults with this cause, or it is refused, or the code is at its end.
+    Fault(u32),
     /// An access isn't made.
-    Unmade,
+    Access,
 }
 
 /// Where the loop over the code has ended, and why.
 #[derive(Clone, Copy)]
 pub(crate) struct Left {
-    place: Place,
-    why: Why,
+    pub place: Place,
+    pub why: Why,
 }
 
-/// Runs a hart with these registers, at this pc, over memory up to its next stop. `bytes` is memory from address 0 on as
-/// far as it is at hand: it stops at a load or a store past it.
-#[inline]
-pub(crate) fn run(image: &Image, x: &mut Registers, pc: u32, done: u64, bytes: &mut [u8]) -> Halt
-    requires aligned { pc % 4 ≡ 0 }
-    requires size { length bytes.old ≤ image.now.size }
-    requires words { length bytes.old % 4 ≡ 0 }
-    ensures stop { hart_effect image.now (spec.hart x.new.x result.pc result.done) ≡ Stops result.at }
-    ensures whole { length bytes.old ≡ image.now.size → spec.IsNoAccess result.at }
-    ensures leads { spec.LeadsTo image.now (spec.hart x.old.x pc done) bytes.old (spec.hart x.new.x result.pc result.done) bytes.new }
-    ensures aligned { result.pc % 4 ≡ 0 }
-    ensures limit { image.now.limit ≤ 1000000 }
-{
-    let limit = image.limit() as usize;
-    if done > limit as u64 || pc > image.code() {
-        let at = stop_outside(image, pc, done);
-        return Halt { pc, done, at };
-    }
-    let word = (pc / 4) as usize;
-    let from = Place {
-        word,
-        last: word + limit - done as usize,
-    };
-    let mut unmade = None;
-    let Left { place, why } = run_from(image, x, from, bytes, &mut unmade);
-    let (pc, done) = (place.address(), place.done(image));
-    let at = stop(image, pc, done, why, unmade);
-    Halt { pc, done, at }
-}
-
-/// Where a hart at this pc, which has executed so many instructions, stops where the loop has ended.
-#[inline]
-fn stop(image: &Image, pc: u32, done: u64, why: Why, unmade: Option<Access>) -> Stop
-    requires aligned { pc % 4 ≡ 0 }
-    requires left { (bytes : ℕ) × (x : List ℕ) × spec.IsLeft image.now bytes (spec.hart x pc done) why unmade }
-    requires far { spec.IsFar why }
-    ensures effect { (bytes : ℕ) (x : List ℕ) → spec.IsLeft image.now bytes (spec.hart x pc done) why unmade → hart_effect image.now (spec.hart x pc done) ≡ Stops result }
-    ensures whole { (bytes : ℕ) (x : List ℕ) → spec.IsLeft image.now bytes (spec.hart x pc done) why unmade → bytes ≡ image.now.size → spec.IsNoAccess result }
-{
-    match why {
-        Why::Near => unreachable!(),
-        Why::Outside => stop_outside(image, pc, done),
-        Why::Trap => stop_at_trap(image, pc, done),
-        Why::Unmade => match unmade {
-            None => unreachable!(),
-            Some(access) => access.stop(image, pc),
-        },
-    }
-}
-
-/// Runs instructions up to the next stop.
-#[inline]
-fn run_from(
-    image: &Image,
-    x: &mut Registers,
-    from: Place,
-    bytes: &mut [u8],
-    unmade: &mut Option<Access>,
-) -> Left
-    requires place { spec.IsPlace image.now from }
-    requires in_code { 4 * from.word ≤ image.now.code }
-    requires size { length bytes.old ≤ image.now.size }
-    requires words { length bytes.old % 4 ≡ 0 }
-    ensures run { spec.IsRun image.now (spec.hart_at image.now x.old.x from) bytes.old result unmade.new x.new.x bytes.new }
-    ensures far { spec.IsFar result.why }
-{
-    if from.last < (image.code() / 4) as usize {
-        return run_near(image, x, from, bytes, unmade);
-    }
-    let left = run_far(image, x, from, bytes, unmade);
-    match left.why {
-        Why::Near => run_near(image, x, left.place, bytes, unmade),
-        _ => left,
-    }
-}
-
-/// Runs instructions up to the next stop, or to a jump after which the limit is near. Each run through the code ends before
-/// the limit, so that only a jump has to look for it.
-#[inline(never)]
-fn run_far(
-    image: &Image,
-    x: &mut Registers,
-    from: Place,
-    bytes: &mut [u8],
-    unmade: &mut Option<Access>,
-) -> Left
-    requires place { spec.IsPlace image.now from }
-    requires in_code { 4 * from.word ≤ image.now.code }
-    requires far { image.now.code ≤ 4 * from.last }
-    requires size { length bytes.old ≤ image.now.size }
-    requires words { length bytes.old % 4 ≡ 0 }
-    ensures { spec.IsRun image.now (spec.hart_at image.now x.old.x from) bytes.old result unmade.new x.new.x bytes.new }
-{
-    run_code(image, x, from, false, bytes, unmade)
-}
-
-/// Runs instructions up to the next stop, where the limit may come before the end of the code.
-#[inline(never)]
-fn run_near(
-    image: &Image,
-    x: &mut Registers,
-    from: Place,
-    bytes: &mut [u8],
-    unmade: &mut Option<Access>,
-) -> Left
-    requires place { spec.IsPlace image.now from }
-    requires in_code { 4 * from.word ≤ image.now.code }
-    requires size { length bytes.old ≤ image.now.size }
-    requires words { length bytes.old % 4 ≡ 0 }
-    ensures run { spec.IsRun image.now (spec.hart_at image.now x.old.x from) bytes.old result unmade.new x.new.x bytes.new }
-    ensures far { spec.IsFar result.why }
-{
-    run_code(image, x, from, true, bytes, unmade)
-}
-
-/// Runs instructions up to the next stop. Where the limit is near it looks for it at each, and else only at a jump, and ends
-/// where the limit has become near.
+/// Runs instructions up to the next stop, and where that is an access sets `at` to it. Where the limit is near it looks for it at each,
+/// and else only at a jump, and ends where the limit has become near.
 #[inline(always)]
-fn run_code(
+pub(crate) fn run_code(
     image: &Image,
     x: &mut Registers,
     from: Place,
     is_near: bool,
     bytes: &mut [u8],
-    unmade: &mut Option<Access>,
+    at: &mut Stop,
 ) -> Left
     requires place { spec.IsPlace image.now from }
     requires in_code { 4 * from.word ≤ image.now.code }
     requires far { is_near ≡ false → image.now.code ≤ 4 * from.last }
     requires size { length bytes.old ≤ image.now.size }
     requires words { length bytes.old % 4 ≡ 0 }
-    ensures run { spec.IsRun image.now (spec.hart_at image.now x.old.x from) bytes.old result unmade.new x.new.x bytes.new }
+    ensures run { spec.IsRun image.now (spec.hart_at image.now x.old.x from) bytes.old result at.new x.new.x bytes.new }
     ensures far { is_near ≡ true → spec.IsFar result.why }
 {
     let program = image.program();
-    let words = program.len() - 1;
+    let words = (image.code() / 4) as usize;
     let Place { mut word, mut last } = from;
     'steps: loop {
         if is_near && word == last {
             return Place { word, last }.left(Why::Outside);
         }
-        match execute(&program[word], word, words, image, x, bytes, unmade) {
+        match execute(&program[word], word, image, x, bytes, at) {
             Way::Following => word += 1,
-            Way::Jump(by) => {
+            Way::By(by) => {
+                let to = word.wrapping_add(by);
+                if to >= words {
+                    return Place { word, last }.left_by(x, by);
+                }
                 last = last_after(last, word, by);
-                word = (word + 1).wrapping_add(by);
+                word = to;
                 if !is_near && last < words {
                     return Place { word, last }.left(Why::Near);
                 }
             }
-            Way::Out(to) => {
-                let last = last + to - word - 1;
-                return Place { word: to, last }.left(Why::Outside);
+            Way::To(to) => {
+                last = last_at(last, word, to);
+                word = to;
+                if to >= words {
+                    return Place { word, last }.left(Why::Outside);
+                }
+                if !is_near && last < words {
+                    return Place { word, last }.left(Why::Near);
+                }
             }
-            Way::Misaligned => return Place { word, last }.left(Why::Trap),
-            Way::Unmade => return Place { word, last }.left(Why::Unmade),
+            Way::Fault(cause) => return Place { word, last }.left(Why::Fault(cause)),
+            Way::Access => return Place { word, last }.left(Why::Access),
         }
     }
 }
 
-/// Where the limit is met after a jump by so many words from the one that follows this, if nothing jumps again.
+/// Where the limit is met after a jump to a word, if nothing jumps again.
+#[inline]
+fn last_at(last: usize, word: usize, to: usize) -> usize
+    requires room { word < last }
+    requires last { last < 2 ^ 31 }
+    requires to { to < 2 ^ 30 }
+    ensures { result ≡ last + to - word - 1 }
+{
+    last + to - word - 1
+}
+
+/// The same of a jump by so many words.
 #[inline]
 fn last_after(last: usize, word: usize, by: usize) -> usize
     requires room { word < last }
     requires last { last < 2 ^ 31 }
-    requires to { (word + 1 + by) % 2 ^ 64 < 2 ^ 30 }
-    ensures { result ≡ last + (word + 1 + by) % 2 ^ 64 - word - 1 }
+    requires to { (word + by) % 2 ^ 64 < 2 ^ 30 }
+    ensures { result ≡ last + (word + by) % 2 ^ 64 - word - 1 }
 {
-    last.wrapping_add(by)
+    last.wrapping_add(by) - 1
+}
+
+/// Sets `at` to where a hart at this pc, which has executed so many instructions, stops where the loop has ended.
+#[inline]
+pub(crate) fn stop(image: &Image, pc: u32, done: u64, why: Why, at: &mut Stop)
+    requires aligned { pc % 4 ≡ 0 }
+    requires left { (bytes : ℕ) × (x : List ℕ) × spec.IsLeft image.now bytes (spec.hart x pc done) why at.old }
+    requires far { spec.IsFar why }
+    ensures effect { (bytes : ℕ) (x : List ℕ) → spec.IsLeft image.now bytes (spec.hart x pc done) why at.old → hart_effect image.now (spec.hart x pc done) ≡ Stops at.new }
+    ensures whole { (bytes : ℕ) (x : List ℕ) → spec.IsLeft image.now bytes (spec.hart x pc done) why at.old → bytes ≡ image.now.size → spec.IsNoAccess at.new }
+{
+    match why {
+        Why::Near => unreachable!(),
+        Why::Outside => *at = stop_outside(image, pc, done),
+        Why::Fault(cause) => set_fault(image, pc, done, cause, at),
+        Why::Access => (),
+    }
 }
 
 /// Where a hart stops that has executed as many instructions as it may, or whose pc is outside the code.
 #[tactic(auto, unfolding(crate::specs::Execute::hart_effect))]
-fn stop_outside(image: &Image, pc: u32, done: u64) -> Stop
+pub(crate) fn stop_outside(image: &Image, pc: u32, done: u64) -> Stop
     requires { (image.now.limit ≤ done) ⊎ (image.now.code ≤ pc) }
     ensures effect { (x : List ℕ) → hart_effect image.now (spec.hart x pc done) ≡ Stops result }
     ensures none { spec.IsNoAccess result }
@@ -262,19 +208,27 @@ fn stop_outside(image: &Image, pc: u32, done: u64) -> Stop
     }
 }
 
-/// Where a hart stops at a word that is refused, at a jump whose target is misaligned, or after the code.
-fn stop_at_trap(image: &Image, pc: u32, done: u64) -> Stop
+/// Sets `at` to where a hart stops at a word that is refused, or whose instruction faults with this cause, or after the code.
+#[inline(never)]
+fn set_fault(image: &Image, pc: u32, done: u64, cause: u32, at: &mut Stop)
     requires { pc % 4 ≡ 0 }
-    ensures effect { (x : List ℕ) → (pc < image.now.code → done < image.now.limit)
-        → instruction_effect image.now (spec.hart x pc done) (λ r. slice_index x r) (kept_of (word_in image.now (pc / 4))) ≡ Stops (Stop.Fault misaligned_target pc)
-        → hart_effect image.now (spec.hart x pc done) ≡ Stops result }
+    ensures effect { (x : List ℕ) → spec.IsFaulting image.now (spec.hart x pc done) cause → hart_effect image.now (spec.hart x pc done) ≡ Stops at.new }
+    ensures none { spec.IsNoAccess at.new }
+{
+    *at = stop_at_fault(image, pc, done, cause);
+}
+
+/// Where a hart stops at a word that is refused, or whose instruction faults with this cause, or after the code.
+fn stop_at_fault(image: &Image, pc: u32, done: u64, cause: u32) -> Stop
+    requires { pc % 4 ≡ 0 }
+    ensures effect { (x : List ℕ) → spec.IsFaulting image.now (spec.hart x pc done) cause → hart_effect image.now (spec.hart x pc done) ≡ Stops result }
     ensures none { spec.IsNoAccess result }
 {
     if pc >= image.code() {
         return stop_outside(image, pc, done);
     }
     match image.instruction_at(pc) {
-        Ok(_) => fault(MISALIGNED_TARGET, pc),
+        Ok(_) => fault(cause, pc),
         Err(Refused::Illegal) => fault(ILLEGAL_WORD, pc),
         Err(Refused::System) => fault(SYSTEM_INSTRUCTION, pc),
     }

@@ -57,13 +57,23 @@ impl Registers {
         self.places[..32] == other.places[..32]
     }
 
+    /// Becomes these, with nothing written to x0: a copy of all places would be a call of the C library.
+    #[inline]
+    pub(crate) fn copy_from(&mut self, other: &Registers)
+        ensures x { self.new.x ≡ other.now.x }
+        ensures unread { self.new.unread ≡ 0 }
+    {
+        self.places[..32].copy_from_slice(&other.places[..32]);
+        self.places[32] = 0;
+    }
+
     /// Forgets what was written to x0.
     #[inline]
     pub(crate) fn settle(&mut self)
         ensures x { self.new.x ≡ self.old.x }
         ensures unread { self.new.unread ≡ 0 }
     {
-        self.places[32] = 0;
+        self.places[32] = 0_u32;
     }
 
     /// What a register holds.

@@ -85,7 +85,9 @@ fn run_epoch(image: &Image, epoch: u32, bytes: &mut [u8]) -> End
     ensures { spec.result_of image.now epoch (spec.epoch_outcome image.now epoch bytes.old) ≡ record { end = result; bytes = bytes.new } }
 {
     let mut hart = start(image, epoch);
-    match hart.run(image, bytes) {
+    let mut at = Stop::Ended;
+    hart.run(image, bytes, &mut at);
+    match at {
         Stop::Ended => end_of(image, epoch, &hart),
         Stop::Fault { cause, pc } => End::Fault { epoch, cause, pc },
         Stop::Load { .. } | Stop::Store { .. } => unreachable!(),
