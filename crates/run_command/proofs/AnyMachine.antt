@@ -1,7 +1,7 @@
 -- On each machine a loop does the same in order, and a history replays to the same state: its machine has no part in that.
 use Rattle.std.proofs.Common.{◌≡◌, ℕ, zero, suc, ◌+◌, ◌-◌, Bool, not, ◌==◌, ◌&&◌, nat_le, List, [], ◌∷◌, Option, Some, None, is_some, Result, Ok, Err, refl, ap, ◌∙◌, if◌then◌else◌}
 use Rattle.rv32_decode.specs.declared.instr.Instr.{Instr}
-use Rattle.rv32_decode.specs.declared.instr.Instr.TheVariants.{Lui, Auipc, Jal, Jalr, Beq, Bne, Blt, Bge, Bltu, Bgeu, Lb, Lh, Lw, Lbu, Lhu, Sb, Sh, Sw, Addi, Slti, Sltiu, Xori, Ori, Andi, Slli, Srli, Srai, Add, Sub, Sll, Slt, Sltu, Xor, Srl, Sra, Or, And, Fence}
+use Rattle.rv32_decode.specs.declared.instr.Instr.TheVariants.{Fence}
 use Rattle.rv32_decode.specs.declared.refused.Refused.{Refused}
 use Rattle.rv32_decode.specs.declared.refused.Refused.TheVariants.{Illegal, System}
 use Rattle.memory_bytes.specs.Maps.{over, stored}
@@ -32,44 +32,8 @@ module _ (image : LoadedImage) (machine : Machine) where
 
   instruction_same : (h : HartState) (x : ℕ → ℕ) (instr : Instr) → instruction_effect on h x instr ≡ instruction_effect image h x instr
   unfolding instruction_effect
-  instruction_same h x (Lui rd imm) = refl
-  instruction_same h x (Auipc rd imm) = refl
-  instruction_same h x (Jal rd offset) = refl
-  instruction_same h x (Jalr rd rs1 imm) = refl
-  instruction_same h x (Beq rs1 rs2 offset) = refl
-  instruction_same h x (Bne rs1 rs2 offset) = refl
-  instruction_same h x (Blt rs1 rs2 offset) = refl
-  instruction_same h x (Bge rs1 rs2 offset) = refl
-  instruction_same h x (Bltu rs1 rs2 offset) = refl
-  instruction_same h x (Bgeu rs1 rs2 offset) = refl
-  instruction_same h x (Lb rd rs1 imm) = refl
-  instruction_same h x (Lh rd rs1 imm) = refl
-  instruction_same h x (Lw rd rs1 imm) = refl
-  instruction_same h x (Lbu rd rs1 imm) = refl
-  instruction_same h x (Lhu rd rs1 imm) = refl
-  instruction_same h x (Sb rs1 rs2 imm) = refl
-  instruction_same h x (Sh rs1 rs2 imm) = refl
-  instruction_same h x (Sw rs1 rs2 imm) = refl
-  instruction_same h x (Addi rd rs1 imm) = refl
-  instruction_same h x (Slti rd rs1 imm) = refl
-  instruction_same h x (Sltiu rd rs1 imm) = refl
-  instruction_same h x (Xori rd rs1 imm) = refl
-  instruction_same h x (Ori rd rs1 imm) = refl
-  instruction_same h x (Andi rd rs1 imm) = refl
-  instruction_same h x (Slli rd rs1 amount) = refl
-  instruction_same h x (Srli rd rs1 amount) = refl
-  instruction_same h x (Srai rd rs1 amount) = refl
-  instruction_same h x (Add rd rs1 rs2) = refl
-  instruction_same h x (Sub rd rs1 rs2) = refl
-  instruction_same h x (Sll rd rs1 rs2) = refl
-  instruction_same h x (Slt rd rs1 rs2) = refl
-  instruction_same h x (Sltu rd rs1 rs2) = refl
-  instruction_same h x (Xor rd rs1 rs2) = refl
-  instruction_same h x (Srl rd rs1 rs2) = refl
-  instruction_same h x (Sra rd rs1 rs2) = refl
-  instruction_same h x (Or rd rs1 rs2) = refl
-  instruction_same h x (And rd rs1 rs2) = refl
   instruction_same h x Fence = refl
+  instruction_same h x instr = refl
 
   word_same : (h : HartState) (read : Result Instr Refused) → word_effect on h read ≡ word_effect image h read
   word_same h (Ok instr) = instruction_same h _ instr
