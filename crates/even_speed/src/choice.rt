@@ -108,8 +108,8 @@ fn price_at<S: PricedStore>(
     match costs {
         Some(costs) => {
             book.look();
-            let hand = hands[core as usize];
-            price_of(&costs, &actions_of(book, core, hand.as_ref()))
+            let hand = hands[core as usize].as_ref();
+            price_of(&costs, &actions_of(book, core, hand))
         }
         None => NO_PRICE,
     }
