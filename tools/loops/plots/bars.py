@@ -19,6 +19,7 @@ from .parts import PARTS, shares  # noqa: E402
 
 Axes = Any              # matplotlib's, which has no types
 MOST_COLUMNS, PANEL_WIDTH, PANEL_HEIGHT = 3, 3.1, 1.8
+MOST_TICKS = 5
 # So wide are the bars of a number of cores together, and so far are they apart at most.
 WIDTH, GAP, INK, PALE = 0.88, 0.04, "#1d2733", "#6b7785"
 # So many letters of the note fit in an inch, and so high is a line of it.
@@ -108,6 +109,12 @@ def bar(axes: Axes, loop: Loop, run: Gain, x: float, stores: Stores, scale: Scal
     axes.text(x, -0.04 * top, stores.sign(run.word), ha="center", va="top", size=6.2, color=PALE)
 
 
+def ticks_up_to(top: float) -> list[float]:
+    """The ticks of an axis: halves up to a few, then as many wholes apart as leave room for the words beside them."""
+    apart = 0.5 if top < 2 else -(-int(top) // MOST_TICKS)
+    return [apart * place for place in range(int(top / apart) + 1)]
+
+
 def panel(axes: Axes, loop: Loop, stores: Stores, scale: Scale) -> None:
     """The bars of a loop."""
     cores, top = sorted({run.cores for run in loop.gains.runs}), scale.top(loop)
@@ -120,8 +127,8 @@ def panel(axes: Axes, loop: Loop, stores: Stores, scale: Scale) -> None:
     axes.set_ylim(0, top)
     axes.set_xticks(range(len(cores)), [f"{count} core{'s' if count > 1 else ''}" for count in cores], size=6.8)
     axes.tick_params(axis="x", length=0, pad=9)
-    axes.set_yticks([0, 0.5, *range(1, int(top) + 1)],
-                    ["0", "50 %", *(f"{whole}00 %" for whole in range(1, int(top) + 1))], size=6.2)
+    ticks = ticks_up_to(top)
+    axes.set_yticks(ticks, ["0", *(f"{100 * tick:.0f} %" for tick in ticks[1:])], size=6.2)
     axes.spines[["top", "right"]].set_visible(False)
 
 
