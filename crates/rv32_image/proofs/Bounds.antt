@@ -1,5 +1,5 @@
 -- What the limits of each version keep, and what every machine does.
-use Rattle.std.proofs.Common.{◌≡◌, ℕ, zero, suc, ◌+◌, ◌*◌, ◌/◌, ◌%◌, ◌<◌, ◌≤◌, ◌==◌, ◌||◌, Bool, true, ◌⊎◌, inl, inr, refl, sym, subst, arith}
+use Rattle.std.proofs.Common.{◌≡◌, ℕ, zero, suc, ◌+◌, ◌*◌, ◌/◌, ◌%◌, ◌<◌, ◌≤◌, true, ◌⊎◌, inl, inr, refl, sym, subst, arith}
 use Rattle.std.proofs.Math.Nat.{div-mul-le_self}
 use Rattle.std.proofs.lemmas.Bool.Decides.{nat_tests}
 use Rattle.std.proofs.lemmas.Nat.{le-div}
@@ -15,9 +15,9 @@ most_few Two = omega arith
 -- the machine of a version is one that there is
 pub version_machine : (version : Version) (size : ℕ) → IsSize version size → IsMachineFor size (machine_of version)
 version_machine One size h =
-    record { is = record { line_length = refl; sets = refl; some_way = omega arith; few_ways = omega arith; some_line = omega arith; few_lines = omega arith }; whole_lines = h.lines }
+    record { is = record { line_length = refl; sets = refl; some_way = omega arith; few_ways = omega arith; some_line = omega arith; few_lines = omega arith }; whole_lines = h.lines; apart = λ some is. cc }
 version_machine Two size h =
-    record { is = record { line_length = refl; sets = refl; some_way = omega arith; few_ways = omega arith; some_line = omega arith; few_lines = omega arith }; whole_lines = h.lines }
+    record { is = record { line_length = refl; sets = refl; some_way = omega arith; few_ways = omega arith; some_line = omega arith; few_lines = omega arith }; whole_lines = h.lines; apart = λ some is. cc }
 
 -- ---- lines of 16, of 32 or of 64 bytes
 

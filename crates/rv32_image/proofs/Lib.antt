@@ -8,3 +8,4 @@ pub mod Printed
 pub mod Settled
 pub mod SmallFacts
 pub mod Bounds
+pub mod Places

@@ -1,5 +1,5 @@
 -- What each version of an image allows, and the machine of each. Source: this project.
-use Rattle.std.specs.Prelude.{◌≡◌, ℕ, ◌%◌, ◌≤◌}
+use Rattle.std.specs.Prelude.{◌≡◌, ℕ, ◌%◌, ◌≤◌, None}
 use Rattle.rv32_image.specs.declared.machine.Machine.{Machine}
 use Rattle.rv32_image.specs.declared.version.Limits.{Limits}
 use Rattle.rv32_image.specs.declared.version.Version.{Version}
@@ -11,8 +11,8 @@ limits_of Two = record { least_size = 32; most_size = 1048576; most_cores = 16; 
 
 -- the machine that runs an image of this version, where none is asked for
 abbrev pub machine_of : Version → Machine
-machine_of One = record { line_length = 16; sets = 4; ways = 2; buffer_lines = 4 }
-machine_of Two = record { line_length = 32; sets = 4; ways = 2; buffer_lines = 8 }
+machine_of One = record { line_length = 16; sets = 4; ways = 2; buffer_lines = 4; apart = None }
+machine_of Two = record { line_length = 32; sets = 4; ways = 2; buffer_lines = 8; apart = None }
 
 -- memory of this version may have so many bytes
 pub record IsSize (version : Version) (size : ℕ) : Type 0 where

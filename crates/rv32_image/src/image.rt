@@ -2,6 +2,7 @@ ghost use Rattle.std.specs.Prelude.{◌≡◌, ◌↔◌, ◌<◌, ◌≤◌, �
 ghost use Rattle.rv32_decode.specs.Table.{meaning_of};
 ghost use Rattle.rv32_image.specs.Image.{IsImage};
 ghost use Rattle.rv32_image.specs.Machine.{IsMachineFor};
+ghost use Rattle.rv32_image.specs.Places.{place};
 ghost use Rattle.rv32_image.specs.Header.{loaded_image};
 ghost use Rattle.rv32_image.specs.Decoded.{IsDecoded, kept_of, trap};
 ghost use Rattle.memory_bytes.specs.Bytes.{number_at};
@@ -129,6 +130,15 @@ impl Image {
             },
             ..self
         })
+    }
+
+    /// The place of a byte: where it lies for the caches of the machine. All places lie below that of the end of memory.
+    pub fn place(&self, addr: u32) -> u32
+        requires { addr ≤ self.now.size }
+        ensures place { result ≡ place self.now.machine self.now.size addr }
+        ensures limits { IsImage self.now }
+    {
+        self.header.machine.place(self.header.size, addr)
     }
 
     /// Whether an epoch may exit the loop: one that ends with x10 other than 0 is then the last.

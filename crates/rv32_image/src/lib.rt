@@ -1,6 +1,7 @@
 //! Images of loops: their parts, and their text.
 #![tactic(auto)]
 
+mod apart;
 mod draft;
 mod fault;
 mod image;
@@ -13,6 +14,7 @@ mod text;
 mod version;
 mod words;
 
+pub use apart::Apart;
 pub use fault::{ImageFault, ImageFaultKind, LONGEST_IMAGE_TEXT};
 pub use image::{Image, NoMemory};
 pub use input::{InputFault, read_input};

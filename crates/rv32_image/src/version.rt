@@ -56,12 +56,14 @@ impl Version {
                 sets: 4,
                 ways: 2,
                 buffer_lines: 4,
+                apart: None,
             },
             Version::Two => Machine {
                 line_length: 32,
                 sets: 4,
                 ways: 2,
                 buffer_lines: 8,
+                apart: None,
             },
         }
     }
