@@ -5,3 +5,4 @@ pub mod Accesses
 pub mod Publishing
 pub mod Opening
 pub mod Fixed
+pub mod Relabelling

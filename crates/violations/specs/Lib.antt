@@ -4,6 +4,8 @@ pub mod View
 pub mod Rule
 pub mod CoreSet
 pub mod Calls
+-- Of places, where bytes have lines of their own: Relabelled.
+pub mod Relabelled
 -- Words of contracts: Answers (what a speculative access answers), Plain (the plain store's view, and whom it violates).
 pub mod Answers
 pub mod Plain

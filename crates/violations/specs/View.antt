@@ -5,6 +5,7 @@
 use Rattle.std.specs.Prelude.{◌≡◌, ◌≢◌, ℕ, ◌+◌, ◌*◌, ◌/◌, ◌%◌, ◌^◌, ◌<◌, ◌≤◌, ◌&&◌, Bool, true, false, List, length, slice_index, Option, Some, None, nat_le, nat_lt}
 use Rattle.memory_bytes.specs.Bytes.{IsWidth}
 use Rattle.rv32_image.specs.declared.machine.Machine.{Machine}
+use Rattle.rv32_image.specs.Places.{place}
 use Rattle.violations.specs.declared.attempt.Attempt.{Attempt}
 use Rattle.violations.specs.declared.step.WaitCause.{WaitCause}
 
@@ -16,9 +17,9 @@ pub record Shape : Type 0 where
   pub code : ℕ
   pub machine : Machine
 
--- the line of memory in which a byte lies, by the address of its first byte
+-- the line in which a byte lies, by the place of its first byte
 abbrev pub line_of : Shape → ℕ → ℕ
-line_of shape a = shape.machine.line_length * (a / shape.machine.line_length)
+line_of shape a = shape.machine.line_length * (place shape.machine shape.size a / shape.machine.line_length)
 
 pub record StoreView : Type 0 where
   pub shape : Shape
