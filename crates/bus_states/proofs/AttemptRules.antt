@@ -31,6 +31,7 @@ pub record IsOpened (bus : Bus) (image : LoadedImage) (cores : ℕ) : Type 0 whe
   pub memory : (a : ℕ) → bus.memory a ≡ slice_index image.bytes a
   pub length_is : is_line_length bus.line_length ≡ true
   pub length_of : bus.line_length ≡ image.machine.line_length
+  pub of_places : image.machine.apart ≡ None
   pub geometry_is : bus.geometry ≡ geometry_of image.machine
   pub whole_lines : bus.shape.size % bus.line_length ≡ 0
   pub lengths : (k : ℕ) → k < bus.shape.cores → (bus.core k).line_length ≡ bus.line_length
@@ -43,6 +44,7 @@ opened-with : (bus : Bus) (image : LoadedImage) (cores : ℕ) → IsOpened bus i
     → IsCoherentWith bus (memory_line bus.line_length bus.memory)
 opened-with bus image cores h =
     idle-with bus h.length_is (h.length_of ∙ sym (ap (λ (shape : Shape). shape.machine.line_length) h.shape))
+    (ap (λ (shape : Shape). shape.machine.apart) h.shape ∙ h.of_places)
     (h.geometry_is ∙ sym (ap (λ (shape : Shape). geometry_of shape.machine) h.shape)) h.whole_lines h.lengths h.geometries
     (λ k inside. h.limits k inside ∙ sym (ap (λ (shape : Shape). shape.machine.buffer_lines) h.shape)) h.idle h.absent
 

@@ -1,5 +1,5 @@
 -- A bus that is coherent with these committed lines is coherent, and these are what is committed.
-use Rattle.std.proofs.Common.{◌≡◌, ◌≢◌, ℕ, zero, suc, ◌+◌, ◌%◌, ◌<◌, ◌≤◌, ◌==◌, ◌||◌, Bool, true, false, cond, refl, sym, ap, subst, ◌∙◌, arith}
+use Rattle.std.proofs.Common.{◌≡◌, ◌≢◌, ℕ, zero, suc, ◌+◌, ◌%◌, ◌<◌, ◌≤◌, ◌==◌, ◌||◌, Bool, true, false, cond, None, refl, sym, ap, subst, ◌∙◌, arith}
 use Rattle.std.proofs.Math.Path.{fun_ext}
 use Rattle.std.proofs.lemmas.Bool.Decides.{nat_tests}
 use Rattle.spec_states.specs.Copies.{LineCopy, IsUpToDate}
@@ -20,6 +20,7 @@ use Rattle.bus_states.proofs.Copies.{not_so}
 pub record IsCoherentWith (bus : Bus) (c : ℕ → ℕ → ℕ) : Type 0 where
   pub length_is : is_line_length bus.line_length ≡ true
   pub length_of : bus.line_length ≡ bus.shape.machine.line_length
+  pub of_places : bus.shape.machine.apart ≡ None
   pub geometry_is : bus.geometry ≡ geometry_of bus.shape.machine
   pub whole_lines : bus.shape.size % bus.line_length ≡ 0
   pub lengths : (k : ℕ) → k < bus.shape.cores → (bus.core k).line_length ≡ bus.line_length
@@ -43,6 +44,7 @@ coherent-with bus c h =
     record {
       length_is = h.length_is;
       length_of = h.length_of;
+      of_places = h.of_places;
       geometry_is = h.geometry_is;
       whole_lines = h.whole_lines;
       lengths = h.lengths;
@@ -63,6 +65,7 @@ with-itself bus h =
     record {
       length_is = h.length_is;
       length_of = h.length_of;
+      of_places = h.of_places;
       geometry_is = h.geometry_is;
       whole_lines = h.whole_lines;
       lengths = h.lengths;
@@ -82,6 +85,7 @@ with-same bus c d same h =
     record {
       length_is = h.length_is;
       length_of = h.length_of;
+      of_places = h.of_places;
       geometry_is = h.geometry_is;
       whole_lines = h.whole_lines;
       lengths = h.lengths;

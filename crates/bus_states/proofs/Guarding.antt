@@ -14,6 +14,7 @@ use Rattle.spec_states.specs.Rows.{requires_ownership, owns_line}
 use Rattle.spec_states.specs.States.{is_valid, is_exclusive, is_speculative}
 use Rattle.spec_states.proofs.MaskLaws.{has-nonzero}
 use Rattle.spec_states.proofs.RowLaws.{speculative-valid, nonzero}
+use Rattle.rv32_image.proofs.Places.{place-none}
 use Rattle.violations.specs.View
 use Rattle.violations.specs.Rule.{OwnsIn}
 use Rattle.bus_states.specs.Bus.{Bus, committed, line_of, offset_of}
@@ -26,7 +27,9 @@ use Rattle.bus_states.proofs.Hurting.{loaded-marked}
 
 -- the line of a byte, as the store's rule has it
 pub line-viewed : (bus : Bus) → IsCoherent bus → (a : ℕ) → View.line_of bus.shape a ≡ line_of bus.line_length a
-line-viewed bus h a = ap (λ (n : ℕ). n * (a / n)) (sym h.length_of)
+line-viewed bus h a =
+    ap (λ (p : ℕ). bus.shape.machine.line_length * (p / bus.shape.machine.line_length)) (place-none bus.shape.machine bus.shape.size a h.of_places)
+    ∙ ap (λ (n : ℕ). n * (a / n)) (sym h.length_of)
 
 -- two bytes of one line
 pub same-line : (bus : Bus) → IsCoherent bus → (a b : ℕ) → View.line_of bus.shape a ≡ View.line_of bus.shape b

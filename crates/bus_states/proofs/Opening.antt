@@ -17,17 +17,18 @@ pub record IsIdle (core : CoreState) : Type 0 where
   pub limit : core.buffer.limit ≤ largest_limit
   pub attempt : core.attempt ≡ None
 
-pub idle-with : (bus : Bus) → is_line_length bus.line_length ≡ true → bus.line_length ≡ bus.shape.machine.line_length
+pub idle-with : (bus : Bus) → is_line_length bus.line_length ≡ true → bus.line_length ≡ bus.shape.machine.line_length → bus.shape.machine.apart ≡ None
     → bus.geometry ≡ geometry_of bus.shape.machine → bus.shape.size % bus.line_length ≡ 0
     → ((k : ℕ) → k < bus.shape.cores → (bus.core k).line_length ≡ bus.line_length)
     → ((k : ℕ) → k < bus.shape.cores → (bus.core k).geometry ≡ bus.geometry)
     → ((k : ℕ) → k < bus.shape.cores → (bus.core k).buffer.limit ≡ bus.shape.machine.buffer_lines)
     → ((k : ℕ) → IsIdle (bus.core k)) → ((k : ℕ) → bus.shape.cores ≤ k → bus.core k ≡ no_core)
     → IsCoherentWith bus (memory_line bus.line_length bus.memory)
-idle-with bus length_is length_of geometry_is whole_lines lengths geometries limits idle absent =
+idle-with bus length_is length_of of_places geometry_is whole_lines lengths geometries limits idle absent =
     record {
       length_is = length_is;
       length_of = length_of;
+      of_places = of_places;
       geometry_is = geometry_is;
       whole_lines = whole_lines;
       lengths = lengths;

@@ -81,6 +81,7 @@ quiet-with bus core own memory c h t =
     record {
       length_is = h.length_is;
       length_of = h.length_of;
+      of_places = h.of_places;
       geometry_is = h.geometry_is;
       whole_lines = h.whole_lines;
       lengths =

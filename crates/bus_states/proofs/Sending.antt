@@ -272,6 +272,7 @@ sent-with bus message room own mine h t =
     record {
       length_is = h.length_is;
       length_of = h.length_of;
+      of_places = h.of_places;
       geometry_is = h.geometry_is;
       whole_lines = h.whole_lines;
       lengths =

@@ -35,6 +35,8 @@ pub record IsCoherentCore (core : CoreState) : Type 0 where
 pub record IsCoherent (bus : Bus) : Type 0 where
   pub length_is : is_line_length bus.line_length ≡ true
   pub length_of : bus.line_length ≡ bus.shape.machine.line_length
+  -- a bus knows places alone
+  pub of_places : bus.shape.machine.apart ≡ None
   pub geometry_is : bus.geometry ≡ geometry_of bus.shape.machine
   pub whole_lines : bus.shape.size % bus.line_length ≡ 0
   pub lengths : (k : ℕ) → k < bus.shape.cores → (bus.core k).line_length ≡ bus.line_length
