@@ -1,9 +1,10 @@
 -- New buses.
-use Rattle.std.proofs.Common.{◌≡◌, ℕ, zero, suc, ◌<◌, ◌≤◌, nat_lt, ◌++◌, ◌∷◌, [], List, Bool, true, false, cond, length, slice_index, refl, ap, ◌∙◌, arith}
+use Rattle.std.proofs.Common.{◌≡◌, ℕ, zero, suc, ◌<◌, ◌≤◌, nat_lt, ◌++◌, ◌∷◌, [], List, Bool, true, false, cond, length, slice_index, None, refl, ap, ◌∙◌, arith}
 use Rattle.std.proofs.lemmas.Bool.Decides.{nat_tests}
 use Rattle.std.proofs.lemmas.Option.{slice_get_past}
 use Rattle.rv32_image.specs.declared.machine.Machine.{Machine}
-use Rattle.rv32_image.specs.Image.{LoadedImage, IsImage}
+use Rattle.rv32_image.specs.Image.{LoadedImage}
+use Rattle.rv32_image.specs.Machine.{IsMachineFor}
 use Rattle.orb.specs.Lines.{Buffer}
 use Rattle.bus_states.specs.Bus.{CoreState, no_core}
 use Rattle.bus_states.proofs.AttemptRules.{IsOpened}
@@ -65,15 +66,16 @@ fresh_is image count code machine cores memory e f g h i idle =
 
 -- ---- it is new
 
-pub fresh_opened : (image : LoadedImage) (count : ℕ) → IsImage image → IsOpened (fresh_bus image count) image count
-fresh_opened image count h =
+pub fresh_opened : (image : LoadedImage) (count : ℕ) → IsMachineFor image.size image.machine → image.machine.apart ≡ None → IsOpened (fresh_bus image count) image count
+fresh_opened image count h none =
     record {
       shape = refl;
       memory = λ a. refl;
-      length_is = h.machine_allowed.is.line_length;
+      length_is = h.is.line_length;
       length_of = refl;
+      of_places = none;
       geometry_is = refl;
-      whole_lines = h.machine_allowed.whole_lines;
+      whole_lines = h.whole_lines;
       lengths = λ k lt. let inside : nat_lt k count ≡ true = grind (arith, nat_tests) in rw inside refl;
       geometries = λ k lt. let inside : nat_lt k count ≡ true = grind (arith, nat_tests) in rw inside refl;
       limits = λ k lt. let inside : nat_lt k count ≡ true = grind (arith, nat_tests) in rw inside refl;
@@ -82,5 +84,5 @@ fresh_opened image count h =
     }
   where
     pick : (b : Bool) → IsIdle (cond b (idle_core image.machine) no_core)
-    pick true = record { copy = λ addr. refl; lines = refl; limit = h.machine_allowed.is.few_lines; attempt = refl }
+    pick true = record { copy = λ addr. refl; lines = refl; limit = h.is.few_lines; attempt = refl }
     pick false = record { copy = λ addr. refl; lines = refl; limit = omega arith; attempt = refl }

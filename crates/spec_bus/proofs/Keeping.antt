@@ -30,53 +30,52 @@ use Rattle.bus_states.proofs.StraightRules.{may-access_straight, straight_load-l
 use Rattle.bus_states.proofs.Taking.{may-access}
 use Rattle.spec_bus.specs.declared.parts.Parts.{Parts}
 use Rattle.spec_bus.specs.Answers.{MatchAnswer, IsLoaded, IsStored}
-use Rattle.spec_bus.specs.CachedInside
-use Rattle.spec_bus.specs.CachedInside.{IsCached}
+use Rattle.spec_bus.specs.CachedInside.{IsBus}
 use Rattle.spec_bus.specs.Parts.{bus_in}
 
 -- the machine's parts hold a coherent bus of this shape, whose attempts are ordered
-pub cached : (old new : Parts) (after : Bus) → IsCached (record { parts = old }) → bus_in new ≡ after → IsCoherent after
-    → AreOrdered after → after.shape ≡ (bus_in old).shape → IsCached (record { parts = new })
+pub cached : (old new : Parts) (after : Bus) → IsBus old → bus_in new ≡ after → IsCoherent after
+    → AreOrdered after → after.shape ≡ (bus_in old).shape → IsBus new
 cached old new after h moves coherent ordered shape =
     let same : (bus_in new).shape ≡ (bus_in old).shape = ap (λ (bus : Bus). bus.shape) moves ∙ shape in
     record {
       coherent = subst (λ (bus : Bus). IsCoherent bus) (sym moves) coherent;
       ordered = subst (λ (bus : Bus). AreOrdered bus) (sym moves) ordered;
       few = subst (λ (shape : Shape). shape.cores ≤ 16) (sym same) h.few;
-      small = subst (λ (shape : Shape). shape.size ≤ 1048576) (sym same) h.small;
+      small = subst (λ (shape : Shape). shape.size ≤ 134217728) (sym same) h.small;
     }
 
 -- a core that runs something is there
-pub runs_there : (parts : Parts) (core : ℕ) (straight : Bool) → IsCached (record { parts = parts })
+pub runs_there : (parts : Parts) (core : ℕ) (straight : Bool) → IsBus parts
     → Runs (view_of (bus_in parts)) core straight → core < length parts.cores.items
 runs_there parts core straight h runs = runs-there (bus_in parts) core (attempt_of runs.epoch straight) h.coherent runs.is
 
-pub publishes_there : (parts : Parts) (core : ℕ) → IsCached (record { parts = parts })
+pub publishes_there : (parts : Parts) (core : ℕ) → IsBus parts
     → MayPublish (view_of (bus_in parts)) core → core < length parts.cores.items
 publishes_there parts core h may = runs-there (bus_in parts) core (attempt_of may.epoch false) h.coherent may.is
 
 -- ---- attempts
 
-pub begins : (old new : Parts) (core epoch : ℕ) → IsCached (record { parts = old }) → MayBegin (view_of (bus_in old)) core epoch
+pub begins : (old new : Parts) (core epoch : ℕ) → IsBus old → MayBegin (view_of (bus_in old)) core epoch
     → bus_in new ≡ after_begin (bus_in old) core epoch → Begins (view_of (bus_in old)) (view_of (bus_in new)) core epoch
 begins old new core epoch h may moves =
     subst (λ (bus : Bus). Begins (view_of (bus_in old)) (view_of bus) core epoch) (sym moves) (begin-begins (bus_in old) core epoch h.coherent may)
 
-pub begun : (old new : Parts) (core epoch : ℕ) → IsCached (record { parts = old }) → MayBegin (view_of (bus_in old)) core epoch
-    → bus_in new ≡ after_begin (bus_in old) core epoch → IsCached (record { parts = new })
+pub begun : (old new : Parts) (core epoch : ℕ) → IsBus old → MayBegin (view_of (bus_in old)) core epoch
+    → bus_in new ≡ after_begin (bus_in old) core epoch → IsBus new
 begun old new core epoch h may moves =
     let after : Bus = after_begin (bus_in old) core epoch in
     let rule = begin-begins (bus_in old) core epoch h.coherent may in
     cached old new after h moves (coherent-with after (committed (bus_in old)) (begin-with (bus_in old) core epoch h.coherent may.there))
     (ordered-begins (bus_in old) after core epoch h.ordered may rule) rule.shape
 
-pub leaves : (old new : Parts) (core : ℕ) → IsCached (record { parts = old }) → Runs (view_of (bus_in old)) core true
+pub leaves : (old new : Parts) (core : ℕ) → IsBus old → Runs (view_of (bus_in old)) core true
     → bus_in new ≡ after_leave (bus_in old) core → Ends (view_of (bus_in old)) (view_of (bus_in new)) core
 leaves old new core h runs moves =
     subst (λ (bus : Bus). Ends (view_of (bus_in old)) (view_of bus) core) (sym moves) (leave-ends (bus_in old) core h.coherent runs)
 
-pub left : (old new : Parts) (core : ℕ) → IsCached (record { parts = old }) → Runs (view_of (bus_in old)) core true
-    → bus_in new ≡ after_leave (bus_in old) core → IsCached (record { parts = new })
+pub left : (old new : Parts) (core : ℕ) → IsBus old → Runs (view_of (bus_in old)) core true
+    → bus_in new ≡ after_leave (bus_in old) core → IsBus new
 left old new core h runs moves =
     let after : Bus = after_leave (bus_in old) core in
     let rule = leave-ends (bus_in old) core h.coherent runs in
@@ -84,13 +83,13 @@ left old new core h runs moves =
     (coherent-with after (committed (bus_in old)) (leave-with (bus_in old) core h.coherent (runs_there old core true h runs) (ap speculates runs.is)))
     (ordered-ends (bus_in old) after core h.ordered rule) rule.shape
 
-pub cancels : (old new : Parts) (core : ℕ) → IsCached (record { parts = old }) → Runs (view_of (bus_in old)) core false
+pub cancels : (old new : Parts) (core : ℕ) → IsBus old → Runs (view_of (bus_in old)) core false
     → bus_in new ≡ after_cancel (bus_in old) core → Ends (view_of (bus_in old)) (view_of (bus_in new)) core
 cancels old new core h runs moves =
     subst (λ (bus : Bus). Ends (view_of (bus_in old)) (view_of bus) core) (sym moves) (cancel-ends (bus_in old) core h.coherent runs)
 
-pub cancelled : (old new : Parts) (core : ℕ) → IsCached (record { parts = old }) → Runs (view_of (bus_in old)) core false
-    → bus_in new ≡ after_cancel (bus_in old) core → IsCached (record { parts = new })
+pub cancelled : (old new : Parts) (core : ℕ) → IsBus old → Runs (view_of (bus_in old)) core false
+    → bus_in new ≡ after_cancel (bus_in old) core → IsBus new
 cancelled old new core h runs moves =
     let after : Bus = after_cancel (bus_in old) core in
     let rule = cancel-ends (bus_in old) core h.coherent runs in
@@ -101,7 +100,7 @@ cancelled old new core h runs moves =
 -- ---- an access of the core to the line of an address
 
 pub record Accesses (parts : Parts) (core address width : ℕ) (straight : Bool) (line : ℕ) (room : Option Room) : Type 0 where
-  pub keeps : IsCached (record { parts = parts })
+  pub keeps : IsBus parts
   pub runs : Runs (view_of (bus_in parts)) core straight
   pub access : IsLoad (bus_in parts).shape address width
   pub line_is : line ≡ line_of parts.machine.line_length address
@@ -126,18 +125,18 @@ pub loads : (step : Step) (old new : Parts) (core address width line : ℕ) (roo
     → MatchAnswer step (λ value hurt. IsLoaded (bus_in old) (bus_in new) core line (offset_of old.machine.line_length address) width room value hurt)
     (λ cause. (load_wait (bus_in old) core line room ≡ Some cause) × (new ≡ old))
     → MatchStep step (λ value hurt. Loads (view_of (bus_in old)) (view_of (bus_in new)) core address width value hurt)
-    (CachedInside.view_of (record { parts = new }) ≡ CachedInside.view_of (record { parts = old }))
+    (new ≡ old)
 loads (Done value hurt) old new core address width line room t done =
     let at = subst (λ (line : ℕ). IsLoaded (bus_in old) (bus_in new) core line (offset_of old.machine.line_length address) width room value (is_in hurt)) t.line_is done in
     subst (λ (bus : Bus). Loads (view_of (bus_in old)) (view_of bus) core address width value (is_in hurt)) (sym at.bus)
     (load-rule old core address width line room value (is_in hurt) (bus_in new) t at)
-loads (Wait cause) old new core address width line room t waits = ap (λ (parts : Parts). CachedInside.view_of (record { parts = parts })) waits.1
+loads (Wait cause) old new core address width line room t waits = waits.1
 
 pub loaded : (step : Step) (old new : Parts) (core address width line : ℕ) (room : Option Room)
     → Accesses old core address width false line room
     → MatchAnswer step (λ value hurt. IsLoaded (bus_in old) (bus_in new) core line (offset_of old.machine.line_length address) width room value hurt)
     (λ cause. (load_wait (bus_in old) core line room ≡ Some cause) × (new ≡ old))
-    → IsCached (record { parts = new })
+    → IsBus new
 loaded (Done value hurt) old new core address width line room t done =
     let at = subst (λ (line : ℕ). IsLoaded (bus_in old) (bus_in new) core line (offset_of old.machine.line_length address) width room value (is_in hurt)) t.line_is done in
     let after : Bus = after_load (bus_in old) core (line_of old.machine.line_length address) (offset_of old.machine.line_length address) width room in
@@ -148,7 +147,7 @@ loaded (Done value hurt) old new core address width line room t done =
     (may-access (bus_in old) core address width room t.keeps.coherent t.runs t.access t.victim) t.access.wide at.goes_on))
     (ordered-hurts (bus_in old) after core (is_in hurt) t.keeps.ordered rule.others rule.attempt) rule.shape
 loaded (Wait cause) old new core address width line room t waits =
-    subst (λ (parts : Parts). IsCached (record { parts = parts })) (sym waits.1) t.keeps
+    subst (λ (parts : Parts). IsBus parts) (sym waits.1) t.keeps
 
 -- it waits just where the load has to
 pub load_waits : (step : Step) (old new : Parts) (core offset width line : ℕ) (room : Option Room)
@@ -170,20 +169,20 @@ pub stores : (step : Step) (old new : Parts) (core address width value line : �
     → MatchAnswer step (λ answer hurt. (answer ≡ 0) × IsStored (bus_in old) (bus_in new) core line (offset_of old.machine.line_length address) width value room hurt)
     (λ cause. (store_wait (bus_in old) core line (offset_of old.machine.line_length address) width room ≡ Some cause) × (new ≡ old))
     → MatchStep step (λ answer hurt. (answer ≡ 0) × Stores (view_of (bus_in old)) (view_of (bus_in new)) core address width value hurt)
-    (CachedInside.view_of (record { parts = new }) ≡ CachedInside.view_of (record { parts = old }))
+    (new ≡ old)
 stores (Done answer hurt) old new core address width value line room t done =
     let at = subst (λ (line : ℕ). IsStored (bus_in old) (bus_in new) core line (offset_of old.machine.line_length address) width value room (is_in hurt)) t.line_is done.1 in (
       done.0,
       subst (λ (bus : Bus). Stores (view_of (bus_in old)) (view_of bus) core address width value (is_in hurt)) (sym at.bus)
           (store-rule old core address width value line room (is_in hurt) (bus_in new) t at),
     )
-stores (Wait cause) old new core address width value line room t waits = ap (λ (parts : Parts). CachedInside.view_of (record { parts = parts })) waits.1
+stores (Wait cause) old new core address width value line room t waits = waits.1
 
 pub stored : (step : Step) (old new : Parts) (core address width value line : ℕ) (room : Option Room)
     → Accesses old core address width false line room
     → MatchAnswer step (λ answer hurt. (answer ≡ 0) × IsStored (bus_in old) (bus_in new) core line (offset_of old.machine.line_length address) width value room hurt)
     (λ cause. (store_wait (bus_in old) core line (offset_of old.machine.line_length address) width room ≡ Some cause) × (new ≡ old))
-    → IsCached (record { parts = new })
+    → IsBus new
 stored (Done answer hurt) old new core address width value line room t done =
     let at = subst (λ (line : ℕ). IsStored (bus_in old) (bus_in new) core line (offset_of old.machine.line_length address) width value room (is_in hurt)) t.line_is done.1 in
     let after : Bus = after_store (bus_in old) core (line_of old.machine.line_length address) (offset_of old.machine.line_length address) width value room in
@@ -195,7 +194,7 @@ stored (Done answer hurt) old new core address width value line room t done =
     (access_ends old core address width false line room t) at.goes_on))
     (ordered-hurts (bus_in old) after core (is_in hurt) t.keeps.ordered rule.others rule.attempt) rule.shape
 stored (Wait cause) old new core address width value line room t waits =
-    subst (λ (parts : Parts). IsCached (record { parts = parts })) (sym waits.1) t.keeps
+    subst (λ (parts : Parts). IsBus parts) (sym waits.1) t.keeps
 
 pub store_waits : (step : Step) (old new : Parts) (core offset width value line : ℕ) (room : Option Room)
     → MatchAnswer step (λ answer hurt. (answer ≡ 0) × IsStored (bus_in old) (bus_in new) core line offset width value room hurt)
@@ -206,16 +205,16 @@ store_waits (Wait cause) old new core offset width value line room waits = sym w
 
 -- ---- publish
 
-pub publishes : (old new : Parts) (core : ℕ) (hurt : ℕ → Bool) → IsCached (record { parts = old }) → MayPublish (view_of (bus_in old)) core
+pub publishes : (old new : Parts) (core : ℕ) (hurt : ℕ → Bool) → IsBus old → MayPublish (view_of (bus_in old)) core
     → bus_in new ≡ after_publish (bus_in old) core → ((k : ℕ) → hurt k ≡ publish_violates (bus_in old) core k)
     → Publishes (view_of (bus_in old)) (view_of (bus_in new)) core hurt
 publishes old new core hurt h may moves are =
     subst (λ (bus : Bus). Publishes (view_of (bus_in old)) (view_of bus) core hurt) (sym moves)
     (publish-publishes (bus_in old) core hurt h.coherent h.ordered may are)
 
-pub published : (old new : Parts) (core : ℕ) (hurt : ℕ → Bool) → IsCached (record { parts = old }) → MayPublish (view_of (bus_in old)) core
+pub published : (old new : Parts) (core : ℕ) (hurt : ℕ → Bool) → IsBus old → MayPublish (view_of (bus_in old)) core
     → bus_in new ≡ after_publish (bus_in old) core → ((k : ℕ) → hurt k ≡ publish_violates (bus_in old) core k)
-    → IsCached (record { parts = new })
+    → IsBus new
 published old new core hurt h may moves are =
     let after : Bus = after_publish (bus_in old) core in
     let rule = publish-publishes (bus_in old) core hurt h.coherent h.ordered may are in
@@ -226,7 +225,7 @@ published old new core hurt h may moves are =
 -- ---- straight accesses
 
 -- nobody holds a straight core up
-pub straight_free : (notice : Notice) (parts : Parts) (core line : ℕ) → IsCached (record { parts = parts })
+pub straight_free : (notice : Notice) (parts : Parts) (core line : ℕ) → IsBus parts
     → Runs (view_of (bus_in parts)) core true → line % parts.machine.line_length ≡ 0
     → is_busy (bus_in parts) (message_of (bus_in parts) notice core line) ≡ false
 straight_free notice parts core line h runs aligned =
@@ -256,7 +255,7 @@ pub loaded_straight : (old new : Parts) (core address width line : ℕ) (room : 
     → Accesses old core address width true line room → bus_in new ≡ after_straight_load (bus_in old) core line room
     → value ≡ number_at (sees (bus_in old) core line) (offset_of old.machine.line_length address) width → value < 256 ^ width
     → ((k : ℕ) → hurt k ≡ straight_load_violates (bus_in old) core line k)
-    → IsCached (record { parts = new })
+    → IsBus new
 loaded_straight old new core address width line room value hurt t moves is small are =
     let after : Bus = after_straight_load (bus_in old) core line room in
     let rule = load_straight-rule old core address width line room value hurt t is small are in
@@ -289,7 +288,7 @@ pub stored_straight : (old new : Parts) (core address width value line : ℕ) (r
     → Accesses old core address width true line room
     → bus_in new ≡ after_straight_store (bus_in old) core line (offset_of old.machine.line_length address) width value room
     → ((k : ℕ) → hurt k ≡ straight_store_violates (bus_in old) core line (offset_of old.machine.line_length address) width value k)
-    → IsCached (record { parts = new })
+    → IsBus new
 stored_straight old new core address width value line room hurt t moves are =
     let after : Bus = after_straight_store (bus_in old) core line (offset_of old.machine.line_length address) width value room in
     let rule = store_straight-rule old core address width value line room hurt t are in

@@ -2,6 +2,8 @@ mod CoreCopies
 mod CommittedMemory
 mod Rooms
 pub mod SameRooms
+mod Placing
+mod Laying
 mod Making
 pub mod Bytes
 mod Surveys

@@ -1,6 +1,6 @@
 -- Two caches that hold the same copies in the same ways have the same room for each line, so the same calls make the same of
 -- their buses.
-use Rattle.std.proofs.Common.{◌≡◌, ℕ, ◌/◌, ◌%◌, ◌<◌, ◌==◌, ◌&&◌, Bool, true, false, cond, not, List, [], ◌∷◌, Option, Some, None, IfSome, option_map, slice_get, true≢false, refl, sym, ap, subst, ◌∙◌}
+use Rattle.std.proofs.Common.{◌≡◌, ℕ, ◌/◌, ◌%◌, ◌<◌, ◌==◌, ◌&&◌, Bool, true, false, cond, min, not, List, [], ◌∷◌, Option, Some, None, IfSome, option_map, slice_get, true≢false, refl, sym, ap, subst, ◌∙◌}
 use Rattle.std.specs.List.{find, range_with_len}
 use Rattle.std.specs.Option.{option_or}
 use Rattle.spec_states.specs.declared.line.LineState.{LineState}
@@ -13,6 +13,7 @@ use Rattle.cache_lines.specs.Cells.{cell_of}
 use Rattle.cache_lines.specs.Changes.{victim_of, is_invalid, is_unmarked}
 use Rattle.cache_lines.specs.Lines.{Contents, Geometry, set_of, line_in, is_copy_of, lowest_way, way_at}
 use Rattle.rv32_image.specs.Machine.{is_line_length}
+use Rattle.rv32_image.specs.Places.{place}
 use Rattle.cache_lines.specs.Placed.{IsPlaced}
 use Rattle.cache_lines.specs.Protocol.{copy_at, copy_of_line, changed_copy, copy_with_number}
 use Rattle.cache_lines.proofs.CopyLaws.{copy_at-line, copy_at-own}
@@ -30,14 +31,14 @@ use Rattle.bus_states.specs.Speculative.{own, holds_line, room_for, no_room, kep
 use Rattle.bus_states.specs.Straight.{after_straight_load, after_straight_store, straight_store_message, unmarked_next, stores_alone}
 use Rattle.bus_states.proofs.Accesses.{invalid-unmarked}
 use Rattle.spec_bus.specs.declared.bus_core.Core.{Core}
-use Rattle.spec_bus.specs.Cached.{CachedView, bus, room}
+use Rattle.spec_bus.specs.Cached.{CachedView, bus, place_of, room, seen}
 use Rattle.spec_bus.specs.Parts.{room_in, state_or_none, line_or_none, victim_or_none}
 use Rattle.violations.specs.Calls.{Call, Reserve, Begin, Load, Store, Publish, StraightLoad, StraightStore, Leave, Cancel, IsFixed, FixWaits, RoomsJoin}
 use Rattle.violations.specs.View.{StoreView}
 use Rattle.violations.specs.Rule.{IsSameView}
 use Rattle.bus_states.specs.Views.{view_of}
 use Rattle.spec_bus.specs.Cached.{store_view, waits}
-use Rattle.spec_bus.specs.Laws.{after_call, unless_waiting, IsPlacedCore, IsPlacedFor, Lead, AreAlike, Makes, HoldTheSame}
+use Rattle.spec_bus.specs.Laws.{after_call, at_place, unless_waiting, IsAfter, IsPlacedCore, IsPlacedFor, Lead, AreAlike, Makes, HoldTheSame}
 
 -- ---- one line
 
@@ -293,48 +294,101 @@ placed_for (StraightStore core addr width value) cores p = p core
 placed_for (Leave core) cores p = tt
 placed_for (Cancel core) cores p = tt
 
-same_load_waits : (v w : CachedView) (core addr width : ℕ) → IsPlacedCore v.cores core → IsPlacedCore w.cores core → bus v ≡ bus w
+-- they give bytes the same places
+same_place : (v w : CachedView) (addr : ℕ) → HoldTheSame v w → place_of v addr ≡ place_of w addr
+same_place v w addr same =
+    (λ i. place (record (same_machine i) { apart = sym same.places.apart i }) (sym same.places.size i) (min addr (sym same.places.size i)))
+  where
+    same_machine : v.machine ≡ w.machine
+    same_machine = sym (ap (λ (b : Bus). b.shape.machine) same.bus_is)
+
+same_load_waits : (v w : CachedView) (core addr width : ℕ) → IsPlacedCore v.cores core → IsPlacedCore w.cores core → HoldTheSame v w
     → (waits v).load core addr width ≡ (waits w).load core addr width
 same_load_waits v w core addr width p q same =
-    let n = line_of (bus v).line_length addr in
-    same_load_wait (bus v) core n 0 width (room v core n) (room w core n) (same_rooms v w core p q same n)
-    ∙ ap (λ (b : Bus). load_wait b core (line_of b.line_length addr) (room w core (line_of b.line_length addr))) same
+    let n = line_of (bus v).line_length (place_of v addr) in
+    same_load_wait (bus v) core n 0 width (room v core n) (room w core n) (same_rooms v w core p q (sym same.bus_is) n)
+    ∙ (ap (λ (b : Bus). load_wait b core (line_of b.line_length (place_of v addr)) (room w core (line_of b.line_length (place_of v addr)))) (sym same.bus_is)
+    ∙ ap (λ a. load_wait (bus w) core (line_of (bus w).line_length a) (room w core (line_of (bus w).line_length a))) (same_place v w addr same))
 
-same_store_waits : (v w : CachedView) (core addr width : ℕ) → IsPlacedCore v.cores core → IsPlacedCore w.cores core → bus v ≡ bus w
+same_store_waits : (v w : CachedView) (core addr width : ℕ) → IsPlacedCore v.cores core → IsPlacedCore w.cores core → HoldTheSame v w
     → (waits v).store core addr width ≡ (waits w).store core addr width
 same_store_waits v w core addr width p q same =
-    let n = line_of (bus v).line_length addr in
-    same_store_wait (bus v) core n (offset_of (bus v).line_length addr) width (room v core n) (room w core n) (same_rooms v w core p q same n)
-    ∙ ap (λ (b : Bus). store_wait b core (line_of b.line_length addr) (offset_of b.line_length addr) width (room w core (line_of b.line_length addr))) same
+    let n = line_of (bus v).line_length (place_of v addr) in
+    let x = offset_of (bus v).line_length (place_of v addr) in
+    same_store_wait (bus v) core n x width (room v core n) (room w core n) (same_rooms v w core p q (sym same.bus_is) n)
+    ∙ (ap (λ (b : Bus). store_wait b core (line_of b.line_length (place_of v addr)) (offset_of b.line_length (place_of v addr)) width (room w core (line_of b.line_length (place_of v addr)))) (sym same.bus_is)
+    ∙ ap (λ a. store_wait (bus w) core (line_of (bus w).line_length a) (offset_of (bus w).line_length a) width (room w core (line_of (bus w).line_length a))) (same_place v w addr same))
 
-alike : (v w : CachedView) → ((k : ℕ) → IsPlacedCore v.cores k) → ((k : ℕ) → IsPlacedCore w.cores k) → bus v ≡ bus w → AreAlike v w
+alike : (v w : CachedView) → ((k : ℕ) → IsPlacedCore v.cores k) → ((k : ℕ) → IsPlacedCore w.cores k) → HoldTheSame v w → AreAlike v w
 alike v w p q same = record {
-  holds = same;
+  holds = sym same.bus_is;
   load = λ core addr width. same_load_waits v w core addr width (p core) (q core) same;
   store = λ core addr width. same_store_waits v w core addr width (p core) (q core) same;
 }
 
-pub calls_fixed : (calls : List Call) (v v' w w' : CachedView) → bus v ≡ bus v' → Lead calls v w → Lead calls v' w' → AreAlike w w'
+-- a call by places that are the same
+same_at : (v w : CachedView) (call : Call) → HoldTheSame v w → at_place (place_of v) call ≡ at_place (place_of w) call
+same_at v w Reserve same = refl
+same_at v w (Begin core epoch) same = refl
+same_at v w (Load core addr width) same = ap (λ a. Load core a width) (same_place v w addr same)
+same_at v w (Store core addr width value) same = ap (λ a. Store core a width value) (same_place v w addr same)
+same_at v w (Publish core) same = refl
+same_at v w (StraightLoad core addr width) same = ap (λ a. StraightLoad core a width) (same_place v w addr same)
+same_at v w (StraightStore core addr width value) same = ap (λ a. StraightStore core a width value) (same_place v w addr same)
+same_at v w (Leave core) same = refl
+same_at v w (Cancel core) same = refl
+
+-- the rooms of a call are those of its place
+rooms_at : (place : ℕ → ℕ) (call : Call) (f g : ℕ → ℕ → Option Room) → AreOneFor call f g → AreOneFor (at_place place call) f g
+rooms_at place Reserve f g one = tt
+rooms_at place (Begin core epoch) f g one = tt
+rooms_at place (Load core addr width) f g one = one
+rooms_at place (Store core addr width value) f g one = one
+rooms_at place (Publish core) f g one = tt
+rooms_at place (StraightLoad core addr width) f g one = one
+rooms_at place (StraightStore core addr width value) f g one = one
+rooms_at place (Leave core) f g one = tt
+rooms_at place (Cancel core) f g one = tt
+
+-- the same call of two that hold the same leads to two that do
+after_same : (call : Call) (v v' w w' : CachedView) → IsPlacedFor v.cores call → IsPlacedFor v'.cores call → HoldTheSame v v' → IsAfter call v w → IsAfter call v' w' → HoldTheSame w w'
+after_same call v v' w w' p q same one two = record {
+  bus_is =
+      two.bus_is
+      ∙ (ap (λ (c : Call). after_call c (bus v') (room v')) (sym (same_at v v' call same))
+      ∙ (ap (λ (b : Bus). after_call (at_place (place_of v) call) b (room v')) same.bus_is
+      ∙ (sym (same_call (at_place (place_of v) call) (bus v) (room v) (room v') (rooms_at (place_of v) call (room v) (room v') (rooms_for call v v' p q (sym same.bus_is)))) ∙ sym one.bus_is)));
+  places = record {
+    size = two.places.size ∙ (same.places.size ∙ sym one.places.size);
+    apart = two.places.apart ∙ (same.places.apart ∙ sym one.places.apart);
+  };
+}
+
+pub calls_fixed : (calls : List Call) (v v' w w' : CachedView) → HoldTheSame v v' → Lead calls v w → Lead calls v' w' → AreAlike w w'
 calls_fixed [] v v' w w' same one two = rw (one.1, two.1) (alike v v' one.0 two.0 same)
 calls_fixed (call ∷ calls) v v' w w' same one two =
-    let next : bus one.1 ≡ bus two.1 =
-    one.2 ∙ (same_call call (bus v) (room v) (room v') (rooms_for call v v' (placed_for call v.cores one.0) (placed_for call v'.cores two.0) same)
-    ∙ (ap (λ (b : Bus). after_call call b (room v')) same ∙ sym two.2)) in
-    calls_fixed calls one.1 two.1 w w' next one.3 two.3
+    calls_fixed calls one.1 two.1 w w' (after_same call v v' one.1 two.1 (placed_for call v.cores one.0) (placed_for call v'.cores two.0) same one.2 two.2) one.3 two.3
 
 -- ---- one call
 
 pub fixed : IsFixed Makes HoldTheSame
-fixed v w v' w' call same one two =
-    two.bus_is ∙ (ap (λ (b : Bus). after_call call b (room v')) same
-    ∙ (sym (same_call call (bus v) (room v) (room v') (rooms_for call v v' one.placed two.placed (sym same))) ∙ sym one.bus_is))
+fixed v w v' w' call same one two = after_same call v v' w w' one.placed two.placed same one.after two.after
 
 pub joined : RoomsJoin Makes
-joined u v w one two = record { placed = one.placed; bus_is = two.bus_is ∙ one.bus_is }
+joined u v w one two = record {
+  placed = one.placed;
+  after = record {
+    bus_is = two.after.bus_is ∙ one.after.bus_is;
+    places = record { size = two.after.places.size ∙ one.after.places.size; apart = two.after.places.apart ∙ one.after.places.apart };
+  };
+}
 
 pub views : (v w : CachedView) → HoldTheSame v w → IsSameView (store_view v) (store_view w)
-views v w same = subst (λ (b : Bus). IsSameView (store_view v) (view_of b)) (sym same) (no_change (store_view v))
+views v w same = subst (λ (x : StoreView). IsSameView (store_view v) x) same_view (no_change (store_view v))
   where
+    same_view : store_view v ≡ store_view w
+    same_view = (λ i. seen (sym same.places.size i) (sym same.places.apart i) (view_of (sym same.bus_is i)))
+
     no_change : (x : StoreView) → IsSameView x x
     no_change x = record {
       shape = refl;
@@ -345,6 +399,6 @@ views v w same = subst (λ (b : Bus). IsSameView (store_view v) (view_of b)) (sy
 
 pub waiting : FixWaits Makes HoldTheSame waits
 waiting = record {
-  load = λ v w v' w' core addr width same one two. same_load_waits v v' core addr width one.placed two.placed (sym same);
-  store = λ v w v' w' core addr width value same one two. same_store_waits v v' core addr width one.placed two.placed (sym same);
+  load = λ v w v' w' core addr width same one two. same_load_waits v v' core addr width one.placed two.placed same;
+  store = λ v w v' w' core addr width value same one two. same_store_waits v v' core addr width one.placed two.placed same;
 }

@@ -9,8 +9,8 @@ use Rattle.bus_states.specs.Bus.{Bus, line_of, offset_of}
 use Rattle.bus_states.specs.Messages.{Room}
 use Rattle.bus_states.specs.Speculative.{after_load, load_wait, after_store, store_wait}
 use Rattle.bus_states.specs.Straight.{after_publish, after_straight_load, after_straight_store}
-use Rattle.spec_bus.specs.Cached.{CachedView, bus, room, waits}
-use Rattle.spec_bus.specs.Fresh.{fresh_bus}
+use Rattle.spec_bus.specs.Cached.{CachedView, bus, place_of, room, waits}
+use Rattle.spec_bus.specs.Fresh.{fresh_bus, by_places}
 use Rattle.spec_bus.specs.declared.bus_core.Core.{Core}
 
 -- where an access waits, the bus is as it was
@@ -42,11 +42,34 @@ after_call (Cancel core) b room = after_cancel b core
 abbrev pub IsPlacedCore : List Core → ℕ → Type 0
 IsPlacedCore cores k = (core : Core) → slice_get cores k ≡ Some core → IsPlaced core.cache
 
+-- the call by the place of its byte
+abbrev pub at_place : (ℕ → ℕ) → Call → Call
+at_place place (Load core addr width) = Load core (place addr) width
+at_place place (Store core addr width value) = Store core (place addr) width value
+at_place place (StraightLoad core addr width) = StraightLoad core (place addr) width
+at_place place (StraightStore core addr width value) = StraightStore core (place addr) width value
+at_place place call = call
+
+-- they give bytes the same places
+pub record HaveSamePlaces (v w : CachedView) : Type 0 where
+  pub size : w.size ≡ v.size
+  pub apart : w.apart ≡ v.apart
+
+-- the caches after the call
+pub record IsAfter (call : Call) (v w : CachedView) : Type 0 where
+  pub bus_is : bus w ≡ after_call (at_place (place_of v) call) (bus v) (room v)
+  pub places : HaveSamePlaces v w
+
 -- these calls, one after another, lead from the one to the other
 abbrev pub Lead : List Call → CachedView → CachedView → Type 0
 Lead [] v w = ((k : ℕ) → IsPlacedCore v.cores k) × (w ≡ v)
 Lead (call ∷ calls) v w =
-    ((k : ℕ) → IsPlacedCore v.cores k) × (u : CachedView) × (bus u ≡ after_call call (bus v) (room v)) × Lead calls u w
+    ((k : ℕ) → IsPlacedCore v.cores k) × (u : CachedView) × IsAfter call v u × Lead calls u w
+
+-- they hold the same copies in the same ways
+pub record HoldTheSame (v w : CachedView) : Type 0 where
+  pub bus_is : bus w ≡ bus v
+  pub places : HaveSamePlaces v w
 
 -- they hold the same copies in the same ways, and the same accesses wait, for the same causes
 pub record AreAlike (v w : CachedView) : Type 0 where
@@ -57,7 +80,7 @@ pub record AreAlike (v w : CachedView) : Type 0 where
 -- from two that are seen equal, the same calls lead to two that are alike, however long the list
 abbrev pub CallsAreFixed : Type 0
 CallsAreFixed =
-    (calls : List Call) (v v' w w' : CachedView) → bus v ≡ bus v' → Lead calls v w → Lead calls v' w' → AreAlike w w'
+    (calls : List Call) (v v' w w' : CachedView) → HoldTheSame v v' → Lead calls v w → Lead calls v' w' → AreAlike w w'
 
 -- ---- one call
 
@@ -72,12 +95,10 @@ IsPlacedFor cores call = Unit {0}
 -- a call makes the caches `w` of the caches `v`, also an access that waits
 pub record Makes (v : CachedView) (call : Call) (w : CachedView) : Type 0 where
   pub placed : IsPlacedFor v.cores call
-  pub bus_is : bus w ≡ after_call call (bus v) (room v)
-
--- they hold the same copies in the same ways
-abbrev pub HoldTheSame : CachedView → CachedView → Type 0
-HoldTheSame v w = bus w ≡ bus v
+  pub after : IsAfter call v w
 
 -- the caches as they are made
-abbrev pub Starts : LoadedImage → ℕ → CachedView → Type 0
-Starts image cores v = bus v ≡ fresh_bus image cores
+pub record Starts (image : LoadedImage) (cores : ℕ) (v : CachedView) : Type 0 where
+  pub bus_is : bus v ≡ fresh_bus (by_places image) cores
+  pub size : v.size ≡ image.size
+  pub apart : v.apart ≡ image.machine.apart

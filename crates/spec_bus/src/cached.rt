@@ -4,23 +4,26 @@ ghost use Rattle.violations.specs.Rule as rule;
 ghost use Rattle.violations.specs.Answers.{MatchStep, wait_of};
 ghost use Rattle.violations.specs.CoreSet.{is_in};
 ghost use Rattle.bus_states.specs.Attempts as attempts;
+ghost use Rattle.bus_states.specs.Bus.{line_of};
 ghost use Rattle.bus_states.specs.Coherent.{IsCoherent};
 ghost use Rattle.bus_states.specs.Speculative as speculative;
 ghost use Rattle.bus_states.specs.Straight as straight;
+ghost use Rattle.bus_states.specs.Views.{view_of};
 ghost use Rattle.spec_bus.specs.Cached as spec;
-ghost use Rattle.spec_bus.specs.Fresh.{fresh_bus};
+ghost use Rattle.spec_bus.specs.Fresh.{fresh_bus, by_places};
 ghost use Rattle.spec_bus.specs.Laws.{IsPlacedCore};
 ghost use Rattle.spec_bus.specs.Laws as laws;
 ghost use Rattle.violations.specs.Calls as call;
 ghost use Rattle.spec_bus.specs.Answers.{MatchAnswer, IsLoaded, IsStored};
 
 use crate::cores::idle_cores;
+use crate::memory::placed_memory;
 use crate::parts::Parts;
 use crate::speculative::owns_line;
 use crate::straight::stores_alone;
 use cache_lines::Line;
 use orb::Orb;
-use rv32_image::{Image, NoMemory};
+use rv32_image::{Apart, Image, Machine, NoMemory};
 use spec_states::LineState;
 use std::alloc::{AllocError, Global};
 use std::marker::Model;
@@ -38,9 +41,14 @@ pub struct LineView {
 }
 
 /// The caches of all cores on one bus, and memory. Only `fresh` takes memory.
+///
+/// The bus knows bytes by their places: where an image's machine has bytes that lie apart, each piece of them has a line of its own
+/// behind memory. Calls name a byte by its address.
 #[derive(Drop)]
 pub struct CachedBus {
     parts: Parts,
+    size: u32,
+    apart: Option<Apart>,
 }
 
 impl Model for CachedBus {
@@ -65,9 +73,9 @@ impl CachedBus {
 
     /// The bytes of memory.
     pub fn size(&self) -> u32
-        ensures { result ≡ (spec.bus self.now).shape.size }
+        ensures { result ≡ self.now.size }
     {
-        self.parts.memory.len() as u32
+        self.size
     }
 
     /// What a core runs.
@@ -78,12 +86,24 @@ impl CachedBus {
         self.parts.core(core as usize).attempt
     }
 
-    /// The address of the line in which a byte lies.
-    fn line_of(&self, addr: u32) -> u32
-        ensures value { result ≡ spec.line_of self.now addr }
+    /// The place of the byte at an address. One past memory counts as its end.
+    fn place(&self, addr: u32) -> u32
+        ensures place { result ≡ spec.place_of self.now addr }
+        ensures inside { addr < self.now.size → result < (spec.bus self.now).shape.size }
+    {
+        let machine = Machine {
+            apart: self.apart,
+            ..self.parts.machine
+        };
+        machine.place(self.size, addr.min(self.size))
+    }
+
+    /// The line in which a place lies.
+    fn line_of(&self, place: u32) -> u32
+        ensures value { result ≡ line_of (spec.bus self.now).line_length place }
         ensures aligned { result % (spec.bus self.now).line_length ≡ 0 }
     {
-        addr - addr % self.parts.machine.line_length
+        place - place % self.parts.machine.line_length
     }
 
     /// The copy that a core has of the line in which this address lies.
@@ -93,7 +113,8 @@ impl CachedBus {
         ensures loaded { result.loaded ≡ (((spec.bus self.now).core core).copy (spec.line_of self.now addr)).marks.loaded }
         ensures bytes { result.bytes ≡ (((spec.bus self.now).core core).copy (spec.line_of self.now addr)).marks.bytes }
     {
-        let copy = self.parts.copy(core as usize, self.line_of(addr));
+        let line = self.line_of(self.place(addr));
+        let copy = self.parts.copy(core as usize, line);
         LineView {
             state: copy.state,
             loaded: copy.marks.loaded,
@@ -101,13 +122,13 @@ impl CachedBus {
         }
     }
 
-    /// The line that stands in a way of a core's cache, in the set of this address.
-    pub fn line_in(&self, core: u32, addr: u32, way: usize) -> &Line
+    /// The line that stands in a way of a core's cache, in the set of this place.
+    pub fn line_in(&self, core: u32, place: u32, way: usize) -> &Line
         requires core { core < (spec.bus self.now).shape.cores }
         requires way { way < (spec.bus self.now).geometry.ways }
-        ensures { result.now ≡ spec.line_in self.now core addr way }
+        ensures { result.now ≡ spec.line_in self.now core place way }
     {
-        self.parts.core(core as usize).cache.line(addr, way)
+        self.parts.core(core as usize).cache.line(place, way)
     }
 
     /// A core's ownership required buffer.
@@ -123,7 +144,8 @@ impl CachedBus {
         requires { core < (spec.bus self.now).shape.cores }
         ensures { result ≡ speculative.owns (spec.bus self.now) core (spec.line_of self.now addr) }
     {
-        let copy = self.parts.copy(core as usize, self.line_of(addr));
+        let line = self.line_of(self.place(addr));
+        let copy = self.parts.copy(core as usize, line);
         owns_line(copy.state, copy.marks)
     }
 
@@ -132,7 +154,8 @@ impl CachedBus {
         requires { core < (spec.bus self.now).shape.cores }
         ensures { result ≡ straight.stores_alone (speculative.own (spec.bus self.now) core (spec.line_of self.now addr)).state }
     {
-        stores_alone(self.parts.copy(core as usize, self.line_of(addr)).state)
+        let line = self.line_of(self.place(addr));
+        stores_alone(self.parts.copy(core as usize, line).state)
     }
 
     /// The state of the line in whose way the line of this address would come into a core's cache. None: every way of its set carries marks.
@@ -140,7 +163,7 @@ impl CachedBus {
         requires { core < (spec.bus self.now).shape.cores }
         ensures { result ≡ option_map (λ room. room.line.state) (spec.room self.now core (spec.line_of self.now addr)) }
     {
-        let line = self.line_of(addr);
+        let line = self.line_of(self.place(addr));
         let cache = &self.parts.core(core as usize).cache;
         match cache.victim(line) {
             Some(way) => Some(cache.line(line, way).state),
@@ -153,7 +176,7 @@ impl CachedBus {
         requires { core < (spec.bus self.now).shape.cores }
         ensures { (width : ℕ) → result ≡ (spec.waits self.now).load core addr width }
     {
-        let line = self.line_of(addr);
+        let line = self.line_of(self.place(addr));
         self.parts.load_wait(core as usize, line)
     }
 
@@ -163,9 +186,22 @@ impl CachedBus {
         requires access { view_spec.IsLoad (spec.store_view self.now).shape addr width }
         ensures { result ≡ (spec.waits self.now).store core addr width }
     {
-        let line = self.line_of(addr);
-        let offset = addr % self.parts.machine.line_length;
+        let place = self.place(addr);
+        let line = self.line_of(place);
+        let offset = place % self.parts.machine.line_length;
         self.parts.store_wait(core as usize, line, offset, width)
+    }
+
+    /// The bytes of memory in order, of these at their places.
+    fn by_address(&self, alloc: Global, places: &[u8]) -> Result<Vec<u8>, AllocError>
+        requires { view_spec.IsCommitted (view_of (spec.bus self.now)) places.now }
+        ensures { IfOk result (λ bytes. view_spec.IsCommitted (spec.store_view self.now) bytes.items) }
+    {
+        let mut bytes = Vec::with_capacity(alloc, self.size as usize)?;
+        for addr in 0..self.size {
+            bytes.push(places[self.place(addr) as usize])?;
+        }
+        Ok(bytes)
     }
 
     /// In a core's cache each line stands in its place: this call does nothing, and its contract is the law.
@@ -209,20 +245,26 @@ impl EpochStore for CachedBus {
     /// `NoMemory`: there was no memory for it, and nothing was made.
     fn fresh(alloc: Global, image: &Image, cores: u32) -> Result<CachedBus, NoMemory>
         requires cores { rule.IsCoreCount image.now cores }
-        ensures bus { IfOk result (λ made. (spec.bus made) ≡ fresh_bus image.now cores) }
+        ensures bus { IfOk result (λ made. (spec.bus made) ≡ fresh_bus (by_places image.now) cores) }
         ensures starts { IfOk result (λ made. laws.Starts image.now cores made) }
         ensures fresh { IfOk result (λ made. rule.IsFresh image.now cores (spec.store_view made)) }
     {
         let machine = image.machine();
-        let memory = Vec::from_slice(alloc, image.bytes()).map_err(|_| NoMemory)?;
-        let cores = idle_cores(alloc, cores, machine)?;
+        let of_places = Machine {
+            apart: None,
+            ..machine
+        };
+        let memory = placed_memory(alloc, image)?;
+        let cores = idle_cores(alloc, cores, of_places)?;
         Ok(CachedBus {
             parts: Parts {
                 cores,
                 memory,
                 code: image.code(),
-                machine,
+                machine: of_places,
             },
+            size: image.size(),
+            apart: machine.apart,
         })
     }
 
@@ -270,9 +312,10 @@ impl EpochStore for CachedBus {
             (self.new ≡ self.old) }
         ensures makes { laws.Makes self.old (call.Load core addr width) self.new }
     {
-        let line = self.line_of(addr);
+        let place = self.place(addr);
+        let line = self.line_of(place);
         self.parts.look_room(core as usize, line);
-        let offset = addr % self.parts.machine.line_length;
+        let offset = place % self.parts.machine.line_length;
         self.parts.load(core as usize, line, offset, width)
     }
 
@@ -290,9 +333,10 @@ impl EpochStore for CachedBus {
             (λ answer hurt. (answer ≡ 0) × rule.Stores (spec.store_view self.old) (spec.store_view self.new) core addr width value hurt) (self.new ≡ self.old) }
         ensures makes { laws.Makes self.old (call.Store core addr width value) self.new }
     {
-        let line = self.line_of(addr);
+        let place = self.place(addr);
+        let line = self.line_of(place);
         self.parts.look_room(core as usize, line);
-        let offset = addr % self.parts.machine.line_length;
+        let offset = place % self.parts.machine.line_length;
         self.parts.store(core as usize, line, offset, width, value)
     }
 
@@ -318,9 +362,10 @@ impl EpochStore for CachedBus {
         ensures loads { rule.LoadsStraight (spec.store_view self.old) (spec.store_view self.new) core addr width result.0 (is_in result.1) }
         ensures makes { laws.Makes self.old (call.StraightLoad core addr width) self.new }
     {
-        let line = self.line_of(addr);
+        let place = self.place(addr);
+        let line = self.line_of(place);
         self.parts.look_room(core as usize, line);
-        let offset = addr % self.parts.machine.line_length;
+        let offset = place % self.parts.machine.line_length;
         self.parts.straight_load(core as usize, line, offset, width)
     }
 
@@ -335,9 +380,10 @@ impl EpochStore for CachedBus {
         ensures stores { rule.StoresStraight (spec.store_view self.old) (spec.store_view self.new) core addr width value (is_in result) }
         ensures makes { laws.Makes self.old (call.StraightStore core addr width value) self.new }
     {
-        let line = self.line_of(addr);
+        let place = self.place(addr);
+        let line = self.line_of(place);
         self.parts.look_room(core as usize, line);
-        let offset = addr % self.parts.machine.line_length;
+        let offset = place % self.parts.machine.line_length;
         self.parts
             .straight_store(core as usize, line, offset, width, value)
     }
@@ -363,12 +409,17 @@ impl EpochStore for CachedBus {
     }
 
     fn committed_byte(&self, addr: u32) -> u8 {
-        let line = self.line_of(addr);
-        let offset = addr % self.parts.machine.line_length;
+        let place = self.place(addr);
+        let line = self.line_of(place);
+        let offset = place % self.parts.machine.line_length;
         self.parts.committed_line(line)[offset as usize]
     }
 
     fn committed_memory(&self, alloc: Global) -> Result<Vec<u8>, AllocError> {
-        self.parts.committed_memory(alloc)
+        let memory = self.parts.committed_memory(alloc)?;
+        if self.apart.is_none() {
+            return Ok(memory);
+        }
+        self.by_address(alloc, memory.as_slice())
     }
 }

@@ -3,7 +3,10 @@ use Rattle.spec_bus.proofs.SameRooms.{fixed, joined, views, waiting}
 use Rattle.spec_bus.proofs.cached.CachedBusEpochStore.calls_are_fixed.Goals as goal
 
 pub returns-clause-starts : goal.returns-clause-starts
-returns-clause-starts c = λ image cores v w one two. two ∙ sym one
+returns-clause-starts c = λ image cores v w one two. record {
+  bus_is = two.bus_is ∙ sym one.bus_is;
+  places = record { size = two.size ∙ sym one.size; apart = two.apart ∙ sym one.apart };
+}
 
 pub returns-clause-fixed : goal.returns-clause-fixed
 returns-clause-fixed c = fixed

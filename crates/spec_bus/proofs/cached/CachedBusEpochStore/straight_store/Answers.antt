@@ -1,49 +1,107 @@
 use Rattle.std.proofs.Common.{◌≡◌, ◌∙◌, ℕ, true, sym, ap, subst}
 use Rattle.violations.specs.View.{Runs, IsLoad}
 use Rattle.bus_states.specs.Bus.{line_of, offset_of}
-use Rattle.bus_states.specs.Straight.{after_straight_store}
-use Rattle.spec_bus.specs.Cached.{CachedView, bus, store_view}
+use Rattle.spec_bus.specs.Cached.{CachedView, bus, place_of, store_view}
 use Rattle.spec_bus.specs.Parts.{bus_in, room_at}
 use Rattle.violations.specs.CoreSet.{is_in}
+use Rattle.violations.specs.Rule.{StoresStraight}
 use Rattle.bus_states.specs.declared.notice.Notice.TheVariants.{Publish}
+use Rattle.bus_states.specs.Straight.{after_straight_store, straight_store_violates}
+use Rattle.bus_states.specs.Views.{view_of}
 use Rattle.spec_bus.proofs.Keeping.{Accesses, stored_straight, stores_straight, straight_free}
 use Rattle.spec_bus.proofs.Making.{straight_store_makes}
+use Rattle.spec_bus.proofs.Placing.{access_at, access_under, access_within, ends_in_line, at_address, place_at, stored_straight-places, place_in, runs_under, seen-stores_straight, shape_of}
 use Rattle.spec_bus.proofs.cached.CachedBusEpochStore.straight_store.Goals as goal
 
 pub straight_store-requires-clause-free : goal.straight_store-requires-clause-free
 straight_store-requires-clause-free c =
-    straight_free Publish c.self.inside.parts c.args.core c.line_of-line.result c.self.invariant
-    (subst (λ v. Runs (store_view v) c.args.core true) (sym c.self.view_is) c.requires.runs) (rw (← c.self.view_is) at c.line_of-line.ensures.aligned)
+    let i = c.self.inside in
+    straight_free Publish i.parts c.args.core c.line_of-line.result c.self.invariant.bus
+    (runs_under i.size i.apart i.parts c.args.core true (subst (λ v. Runs (store_view v) c.args.core true) (sym c.self.view_is) c.requires.runs))
+    (rw (← c.self.view_is) at c.line_of-line.ensures.aligned)
 
-accesses : (c : goal.After-straight_store) → Accesses c.self.inside.parts c.args.core c.args.addr c.args.width true c.line_of-line.result (room_at c.self.inside.parts.cores.items c.args.core c.line_of-line.result)
-accesses c = record {
-  keeps = c.self.invariant;
-  runs = subst (λ v. Runs (store_view v) c.args.core true) (sym c.self.view_is) c.requires.runs;
-  access = subst (λ v. IsLoad (store_view v).shape c.args.addr c.args.width) (sym c.self.view_is) c.requires.access;
-  line_is = subst (λ (v : CachedView). c.line_of-line.result ≡ line_of (bus v).line_length c.args.addr) (sym c.self.view_is) c.line_of-line.ensures.value;
-  victim = c.look_room.ensures.room;
-}
+pub straight_store-requires-clause-in_line : goal.straight_store-requires-clause-in_line
+straight_store-requires-clause-in_line c =
+    let i = c.self.inside in
+    let kept = c.self.invariant in
+    let access =
+    access_under i.size i.apart i.parts c.args.addr c.args.width c.place-place.result kept.bus kept.places
+    (subst (λ v. IsLoad (store_view v).shape c.args.addr c.args.width) (sym c.self.view_is) c.requires.access)
+    (subst (λ (v : CachedView). c.place-place.result ≡ place_of v c.args.addr) (sym c.self.view_is) c.place-place.ensures.place) in
+    ends_in_line i.parts c.place-place.result c.args.width kept.bus access
+
+-- its place, and what it asks there
+place_is : (c : goal.After-straight_store) → c.place-place.result ≡ place_at c.self.inside.size c.self.inside.apart c.self.inside.parts c.args.addr
+place_is c = subst (λ (v : CachedView). c.place-place.result ≡ place_of v c.args.addr) (sym c.self.view_is) c.place-place.ensures.place
+
+asked : (c : goal.After-straight_store) → IsLoad (shape_of c.self.inside.size c.self.inside.apart c.self.inside.parts) c.args.addr c.args.width
+asked c = subst (λ v. IsLoad (store_view v).shape c.args.addr c.args.width) (sym c.self.view_is) c.requires.access
+
+seen_at : (c : goal.After-straight_store) → c.place-place.result ≡ place_in c.self.inside.size c.self.inside.apart c.self.inside.parts c.args.addr
+seen_at c =
+    let i = c.self.inside in
+    place_is c ∙ at_address i.size i.apart i.parts c.args.addr (access_within (shape_of i.size i.apart i.parts) c.args.addr c.args.width (asked c))
+
+accesses : (c : goal.After-straight_store) → Accesses c.self.inside.parts c.args.core c.place-place.result c.args.width true c.line_of-line.result (room_at c.self.inside.parts.cores.items c.args.core c.line_of-line.result)
+accesses c =
+    let i = c.self.inside in record {
+      keeps = c.self.invariant.bus;
+      runs = runs_under i.size i.apart i.parts c.args.core true (subst (λ v. Runs (store_view v) c.args.core true) (sym c.self.view_is) c.requires.runs);
+      access =
+          subst (λ p. IsLoad (bus_in i.parts).shape p c.args.width) (sym (seen_at c))
+          (access_at i.size i.apart i.parts c.args.addr c.args.width c.self.invariant.bus c.self.invariant.places (asked c));
+      line_is = subst (λ (v : CachedView). c.line_of-line.result ≡ line_of (bus v).line_length c.place-place.result) (sym c.self.view_is) c.line_of-line.ensures.value;
+      victim = c.look_room.ensures.room;
+    }
+
+by_rule : (c : goal.After-straight_store)
+    → StoresStraight (view_of (bus_in c.self.inside.parts)) (view_of (bus_in c.straight_store.new.self)) c.args.core
+    (place_in c.self.inside.size c.self.inside.apart c.self.inside.parts c.args.addr) c.args.width c.args.value (is_in c.straight_store.result)
+by_rule c =
+    subst (λ p. StoresStraight (view_of (bus_in c.self.inside.parts)) (view_of (bus_in c.straight_store.new.self)) c.args.core p c.args.width c.args.value (is_in c.straight_store.result)) (seen_at c)
+    (stores_straight c.self.inside.parts c.straight_store.new.self c.args.core c.place-place.result c.args.width c.args.value c.line_of-line.result _ (is_in c.straight_store.result)
+    (accesses c) c.straight_store.ensures.bus c.straight_store.ensures.hurt)
 
 pub invariant_of-self : goal.invariant_of-self
 invariant_of-self c =
-    stored_straight c.self.inside.parts c.straight_store.new.self c.args.core c.args.addr c.args.width c.args.value c.line_of-line.result _ (is_in c.straight_store.result)
-    (accesses c) c.straight_store.ensures.bus c.straight_store.ensures.hurt
+    let i = c.self.inside in
+    let kept =
+    stored_straight i.parts c.straight_store.new.self c.args.core c.place-place.result c.args.width c.args.value c.line_of-line.result _ (is_in c.straight_store.result)
+    (accesses c) c.straight_store.ensures.bus c.straight_store.ensures.hurt in record {
+      bus = kept;
+      places =
+          stored_straight-places i.size i.apart i.parts c.straight_store.new.self c.self.invariant.bus c.self.invariant.places c.args.core c.args.addr c.args.width (asked c)
+          c.args.value (is_in c.straight_store.result) kept (accesses c).runs (by_rule c);
+    }
 
 pub returns-clause-stores : goal.returns-clause-stores
 returns-clause-stores c =
+    let i = c.self.inside in
     rw (← c.self.view_is)
-    (stores_straight c.self.inside.parts c.straight_store.new.self c.args.core c.args.addr c.args.width c.args.value c.line_of-line.result _ (is_in c.straight_store.result)
-    (accesses c) c.straight_store.ensures.bus c.straight_store.ensures.hurt)
+    (seen-stores_straight i.size i.apart i.parts c.straight_store.new.self c.self.invariant.bus c.self.invariant.places c.args.core c.args.addr c.args.width (asked c)
+    c.args.value (is_in c.straight_store.result) (by_rule c))
 
 pub returns-clause-bus : goal.returns-clause-bus
 returns-clause-bus c =
     let parts = c.self.inside.parts in
     rw (← c.self.view_is)
     (c.straight_store.ensures.bus
-    ∙ ap (λ (line : ℕ). after_straight_store (bus_in parts) c.args.core line (offset_of parts.machine.line_length c.args.addr) c.args.width c.args.value
-    (room_at parts.cores.items c.args.core line)) (accesses c).line_is)
+    ∙ (ap (λ (line : ℕ). after_straight_store (bus_in parts) c.args.core line (offset_of parts.machine.line_length c.place-place.result) c.args.width c.args.value
+    (room_at parts.cores.items c.args.core line)) (accesses c).line_is
+    ∙ ap (λ (p : ℕ). after_straight_store (bus_in parts) c.args.core (line_of parts.machine.line_length p) (offset_of parts.machine.line_length p) c.args.width c.args.value
+    (room_at parts.cores.items c.args.core (line_of parts.machine.line_length p))) (place_is c)))
+
+pub returns-clause-hurt : goal.returns-clause-hurt
+returns-clause-hurt c =
+    let parts = c.self.inside.parts in
+    rw (← c.self.view_is)
+    (λ k. c.straight_store.ensures.hurt k
+    ∙ (ap (λ (line : ℕ). straight_store_violates (bus_in parts) c.args.core line (offset_of parts.machine.line_length c.place-place.result) c.args.width c.args.value k) (accesses c).line_is
+    ∙ ap (λ (p : ℕ). straight_store_violates (bus_in parts) c.args.core (line_of parts.machine.line_length p) (offset_of parts.machine.line_length p) c.args.width c.args.value k) (place_is c)))
 
 pub returns-clause-makes : goal.returns-clause-makes
 returns-clause-makes c =
+    let i = c.self.inside in
     rw (← c.self.view_is)
-    (straight_store_makes c.self.inside.parts c.straight_store.new.self c.args.core c.args.addr c.args.width c.args.value c.line_of-line.result (accesses c).line_is c.look_room.ensures.placed c.straight_store.ensures.bus)
+    (straight_store_makes i.size i.apart i.parts c.straight_store.new.self c.args.core c.args.addr c.place-place.result c.args.width c.args.value c.line_of-line.result (place_is c) (accesses c).line_is
+    c.look_room.ensures.placed c.straight_store.ensures.bus)
