@@ -1,3 +1,4 @@
 -- What a loop over bytes or cores has found.
 pub mod Tests
 pub mod Missing
+pub mod Lines

@@ -3,9 +3,10 @@
 -- Multiprocessor Caches", IEEE Transactions on Computers, 1994; a silent store is that of Lepak and Lipasti, "On the Value Locality of
 -- Store Instructions", ISCA 2000; the ownership required buffer is that of Steffan, Colohan, Zhai and Mowry, "A Scalable
 -- Approach to Thread-Level Speculation", ISCA 2000.
-use Rattle.std.specs.Prelude.{◌≡◌, ◌≢◌, ℕ, ◌+◌, ◌*◌, ◌/◌, ◌==◌, ◌&&◌, not, Bool, true, false, List, length, take, Option, Some, None, is_some, nat_le, nat_lt, option_and_then, option_map, slice_get, if◌then◌else◌}
+use Rattle.std.specs.Prelude.{◌≡◌, ◌≢◌, ℕ, ◌+◌, ◌/◌, ◌==◌, ◌&&◌, not, Bool, true, false, List, length, take, Option, Some, None, is_some, nat_le, nat_lt, option_and_then, option_map, slice_get, if◌then◌else◌}
 use Rattle.memory_bytes.specs.Maps.{nothing, over, stored}
 use Rattle.rv32_image.specs.Image.{LoadedImage}
+use Rattle.rv32_image.specs.Places.{place}
 use Rattle.spec_history.specs.declared.entry.Entry.{Entry}
 use Rattle.spec_history.specs.declared.entry.What.{What}
 use Rattle.spec_history.specs.declared.entry.What.TheVariants.{Load, Store, Hurt, Cancel, Publish, Commit, Fault}
@@ -95,15 +96,17 @@ is_shared m a = is_some (m.writes a) && is_some (m.reads a)
 abbrev pub is_changed : Meeting → ℕ → Bool
 is_changed m a = not (over m.writes m.committed a == m.committed a) && is_some (m.reads a)
 
--- the number of the line of the caches in which a byte lies
+-- the number of the line of the caches in which a byte lies, by its place
 abbrev pub line_number : LoadedImage → ℕ → ℕ
-line_number image a = a / image.machine.line_length
+line_number image a = place image.machine image.size a / image.machine.line_length
 
--- some byte of the line passes the test
+-- how many lines there are
+abbrev pub line_count : LoadedImage → ℕ
+line_count image = line_number image image.size
+
+-- some byte of memory that lies in the line passes the test
 abbrev pub line_has : LoadedImage → ℕ → (ℕ → Bool) → Bool
-line_has image line test =
-    let long = image.machine.line_length in
-    any_below long (λ x. test (line * long + x))
+line_has image line test = any_below image.size (λ a. (line_number image a == line) && test a)
 
 -- a byte that the victim has read, in a line that the cause writes
 abbrev pub is_beside : LoadedImage → Meeting → ℕ → Bool
@@ -116,9 +119,8 @@ holds_line image m line = line_has image line (λ a. is_some (m.stores a))
 -- the victim has stored in the line, and in as many other lines as its buffer takes
 abbrev pub is_full_at : LoadedImage → Meeting → ℕ → Bool
 is_full_at image m line =
-    let machine = image.machine in
     holds_line image m line
-    && nat_le machine.buffer_lines (count_below (image.size / machine.line_length) (λ other. not (other == line) && holds_line image m other))
+    && nat_le image.machine.buffer_lines (count_below (line_count image) (λ other. not (other == line) && holds_line image m other))
 
 -- the cause is an access, in memory as all that are legal, to a line for which the victim's full buffer has no place
 abbrev pub is_crowded : LoadedImage → Meeting → What → Bool
