@@ -143,7 +143,7 @@ module _ (C : Type 0) (t : Turn) (v w : StoreView) (out : Outcome) (going : t.st
       (rw (eq-eqb t.core t.core refl) refl)
       (λ u j k q hurts first f. stores_known C t.image t.cores t.state v t.core x.core going kept agrees is.runs is.unhurt fits shape settled cached w x.hurt u j j k x.address x.width x.value q inside x.store hurts first f)
       (λ u first. alone (v.cached ≡ false) C t.image t.core act u (λ epoch same. cc)
-      (store_passes C t.image t.cores t.state v t.core x.core going kept agrees is.runs is.unhurt fits shape settled cached w x.hurt u x.address x.width x.value x.comes.speculates x.store first)))
+      (store_passes C t.image t.cores t.state v t.core x.core going kept agrees is.runs is.unhurt fits shape settled cached w x.hurt u x.address x.width x.value inside x.comes.speculates x.store first)))
 
   straight_loads_known : (x : turn.IsStraightLoad t v w out) → Known out.entries
   straight_loads_known x =

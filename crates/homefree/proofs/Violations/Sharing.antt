@@ -5,15 +5,17 @@ use Rattle.std.proofs.lemmas.Bool.{cases_eq, and_from, or_left, or_right}
 use Rattle.std.proofs.lemmas.List.Elements.{All-nil, All-cons, All-head, All-tail, All-weaker}
 use Rattle.rv32_image.specs.Image.{LoadedImage}
 use Rattle.rv32_image.specs.Machine.{IsMachineFor}
-use Rattle.rv32_image.proofs.Bounds.{place_in, number_below, byte_in_line, same_number, line_below}
+use Rattle.rv32_image.specs.Places.{place}
+use Rattle.rv32_image.proofs.Bounds.{same_number}
 use Rattle.spec_history.specs.declared.entry.What.{What}
 use Rattle.spec_history.specs.declared.entry.What.TheVariants.{Load, Store}
 use Rattle.spec_history.specs.FlatState.{CoreState}
+use Rattle.spec_history.proofs.Searches.Lines.{line_passes, number_counted, same_line_below}
 use Rattle.spec_history.proofs.Searches.Tests.{one_passes}
 use Rattle.spec_history.specs.Refusal.{any_below}
 use Rattle.spec_history.specs.declared.kind.Kind.{Kind}
 use Rattle.spec_history.specs.declared.kind.Kind.TheVariants.{TrueSharing, SilentStore, FalseSharing, FullBuffer, Unexplained}
-use Rattle.spec_history.specs.Conflict.{Meeting, kind_with, is_changed, is_shared, is_beside, is_crowded, is_full_at, holds_line, line_has}
+use Rattle.spec_history.specs.Conflict.{Meeting, kind_with, is_changed, is_shared, is_beside, is_crowded, is_full_at, holds_line}
 use Rattle.spec_history.specs.Conflict as conflict
 use Rattle.spec_history.specs.Searches.{count_below}
 use Rattle.violations.specs.View.{Shape, StoreView}
@@ -39,16 +41,11 @@ kind_is image m cause is =
 
 -- ---- lines
 
--- a line of which a byte passes
-has_byte : (image : LoadedImage) (line a : ℕ) (test : ℕ → Bool) → IsMachineFor image.size image.machine → line ≡ a / line_length image → test a ≡ true → line_has image line test ≡ true
-has_byte image line a test fits at passes =
-    one_passes (line_length image) (λ x. test (line * line_length image + x)) (a % line_length image) (place_in (line_length image) a fits.is.line_length)
-    (ap test (ap (λ n. n * line_length image + a % line_length image) at ∙ byte_in_line (line_length image) a a fits.is.line_length refl) ∙ passes)
-
-line_in : (image : LoadedImage) (count : ℕ) (shape : Shape) (a b : ℕ) → IsMachineFor image.size image.machine → shape ≡ shape_of image count → view.line_of shape a ≡ view.line_of shape b
-    → a / line_length image ≡ b / line_length image
+pub line_in : (image : LoadedImage) (count : ℕ) (shape : Shape) (a b : ℕ) → IsMachineFor image.size image.machine → shape ≡ shape_of image count → view.line_of shape a ≡ view.line_of shape b
+    → conflict.line_number image a ≡ conflict.line_number image b
 line_in image count shape a b fits is same =
-    same_number (line_length image) a b fits.is.line_length (ap (λ (s : Shape). view.line_of s a) (sym is) ∙ (same ∙ ap (λ (s : Shape). view.line_of s b) is))
+    same_number (line_length image) (place image.machine image.size a) (place image.machine image.size b) fits.is.line_length
+    (ap (λ (s : Shape). view.line_of s a) (sym is) ∙ (same ∙ ap (λ (s : Shape). view.line_of s b) is))
 
 -- ---- bytes that meet in a line
 
@@ -59,7 +56,11 @@ is_met image count v m cause c a fits is reads within written read =
     kind_is image m cause (or_left _ (is_crowded image m cause)
     (one_passes image.size (is_beside image m) read.at (within read.at read.read)
     (and_from (is_some (m.reads read.at)) _ (ap (λ o. is_some o) (reads read.at) ∙ read.read)
-    (has_byte image (conflict.line_number image read.at) a (λ b. is_some (m.writes b)) fits (line_in image count v.shape read.at a fits is read.in_line) written))))
+    (line_passes image (conflict.line_number image read.at) a (λ b. is_some (m.writes b))
+    (same_line_below image read.at a fits in_line (within read.at read.read)) (sym in_line) written))))
+  where
+    in_line : conflict.line_number image read.at ≡ conflict.line_number image a
+    in_line = line_in image count v.shape read.at a fits is read.in_line
 
 shared_kind : (a b : Bool) (rest : Kind) → b ≡ true
     → ((if a then TrueSharing else if b then SilentStore else rest) ≡ TrueSharing) ⊎ ((if a then TrueSharing else if b then SilentStore else rest) ≡ SilentStore)
@@ -157,10 +158,10 @@ at_most long n (line ∷ lines) test apart all =
 
 module _ (image : LoadedImage) (count : ℕ) (v : StoreView) (m : Meeting) (c : CoreState) (k address : ℕ) (shape : v.shape ≡ shape_of image count)
     (fits : IsMachineFor image.size image.machine) (stores : (x : ℕ) → m.stores x ≡ c.own x) (own : (x : ℕ) → v.own k x ≡ is_some (c.own x)) where
-  holds_at : (a : ℕ) → v.own k a ≡ true → holds_line image m (a / line_length image) ≡ true
-  holds_at a owned = has_byte image (a / line_length image) a (λ b. is_some (m.stores b)) fits refl (ap (λ o. is_some o) (stores a) ∙ (sym (own a) ∙ owned))
+  holds_at : (a : ℕ) → a < image.size → v.own k a ≡ true → holds_line image m (conflict.line_number image a) ≡ true
+  holds_at a below owned = line_passes image (conflict.line_number image a) a (λ b. is_some (m.stores b)) below refl (ap (λ o. is_some o) (stores a) ∙ (sym (own a) ∙ owned))
 
-  first_byte : (line a : ℕ) → view.line_of v.shape a ≡ line → line ≡ line_length image * (a / line_length image)
+  first_byte : (line a : ℕ) → view.line_of v.shape a ≡ line → line ≡ line_length image * conflict.line_number image a
   first_byte line a is = sym is ∙ ap (λ (s : Shape). view.line_of s a) shape
 
   below_size : (a : ℕ) → a < v.shape.size → a < image.size
@@ -169,34 +170,35 @@ module _ (image : LoadedImage) (count : ℕ) (v : StoreView) (m : Meeting) (c : 
   abbrev holds_other : ℕ → Bool
   holds_other other = not (other == conflict.line_number image address) && holds_line image m other
 
-  is_other : (line : ℕ) → (line ≢ view.line_of v.shape address) × OwnsIn v k line → IsOf (line_length image) (image.size / line_length image) holds_other line
+  is_other : (line : ℕ) → (line ≢ view.line_of v.shape address) × OwnsIn v k line → IsOf (line_length image) (conflict.line_count image) holds_other line
   is_other line two =
       let o = two.1 in record {
-        number = o.at / line_length image;
+        number = conflict.line_number image o.at;
         is = first_byte line o.at o.in_line;
-        below = number_below (line_length image) o.at image.size fits.is.line_length (below_size o.at o.within) fits.whole_lines;
-        passes = and_from (not (o.at / line_length image == conflict.line_number image address)) _
-            (ap not (ne_eqb (o.at / line_length image) (conflict.line_number image address) (λ same. two.0
+        below = number_counted image o.at fits (below_size o.at o.within);
+        passes = and_from (not (conflict.line_number image o.at == conflict.line_number image address)) _
+            (ap not (ne_eqb (conflict.line_number image o.at) (conflict.line_number image address) (λ same. two.0
             (first_byte line o.at o.in_line ∙ (ap (λ n. line_length image * n) same ∙ sym (ap (λ (s : Shape). view.line_of s address) shape))))))
-            (holds_at o.at o.owned);
+            (holds_at o.at (below_size o.at o.within) o.owned);
       }
 
   is_full : IsCrowded v k address → is_full_at image m (conflict.line_number image address) ≡ true
   is_full crowded =
       let here = crowded.here in
       let same = line_in image count v.shape here.at address fits shape here.in_line in
-      let all = All-weaker (λ line. (line ≢ view.line_of v.shape address) × OwnsIn v k line) (IsOf (line_length image) (image.size / line_length image) holds_other) is_other crowded.others crowded.each in
-      let many = at_most (line_length image) (image.size / line_length image) crowded.others holds_other crowded.apart all in
+      let all = All-weaker (λ line. (line ≢ view.line_of v.shape address) × OwnsIn v k line) (IsOf (line_length image) (conflict.line_count image) holds_other) is_other crowded.others crowded.each in
+      let many = at_most (line_length image) (conflict.line_count image) crowded.others holds_other crowded.apart all in
       let full = crowded.full in
       let limit : v.shape.machine.buffer_lines ≡ image.machine.buffer_lines = ap (λ (s : Shape). s.machine.buffer_lines) shape in
-      and_from (holds_line image m (conflict.line_number image address)) _ (ap (holds_line image m) (sym same) ∙ holds_at here.at here.owned)
-      (le-leb image.machine.buffer_lines (count_below (image.size / line_length image) holds_other) (omega (arith, many, full, limit)))
+      and_from (holds_line image m (conflict.line_number image address)) _ (ap (holds_line image m) (sym same) ∙ holds_at here.at (below_size here.at here.within) here.owned)
+      (le-leb image.machine.buffer_lines (count_below (conflict.line_count image) holds_other) (omega (arith, many, full, limit)))
 
   -- it lies in memory, as the byte that is owned there
   below_it : IsCrowded v k address → nat_lt address image.size ≡ true
   below_it crowded =
       let here = crowded.here in
-      lt-ltb address image.size (line_below (line_length image) here.at address image.size fits.is.line_length (line_in image count v.shape here.at address fits shape here.in_line) (below_size here.at here.within) fits.whole_lines)
+      lt-ltb address image.size
+      (same_line_below image here.at address fits (line_in image count v.shape here.at address fits shape here.in_line) (below_size here.at here.within))
 
   pub load_crowded : (width value : ℕ) → IsCrowded v k address → kind_with image m (Load address width value) ≢ Unexplained
   load_crowded width value crowded =

@@ -5,7 +5,6 @@ use Rattle.std.proofs.lemmas.List.{append_assoc}
 use Rattle.std.proofs.lemmas.Option.{same_Some}
 use Rattle.rv32_image.specs.Image.{LoadedImage}
 use Rattle.rv32_image.specs.Machine.{IsMachineFor}
-use Rattle.rv32_image.proofs.Bounds.{place_in, line_of_place, own_place, place_below}
 use Rattle.rv32_image.proofs.SmallFacts.{one_value, none_and_some, value_of}
 use Rattle.spec_history.specs.declared.entry.Entry.{Entry}
 use Rattle.spec_history.specs.declared.entry.What.{What}
@@ -14,7 +13,7 @@ use Rattle.spec_history.specs.Effect.{by_core, effect, hurt_at}
 use Rattle.spec_history.specs.FlatState.{CoreState, FlatState}
 use Rattle.spec_history.specs.Laws.{IsKept}
 use Rattle.spec_history.proofs.OneEntry.Keeping.{with_core_other, with_core_same}
-use Rattle.spec_history.proofs.OneEntry.Legal.{some_below, none_below}
+use Rattle.spec_history.proofs.Searches.Lines.{none_passes, passing_byte, same_line_below}
 use Rattle.spec_history.proofs.Replay.Replays.{effect-on}
 use Rattle.spec_history.specs.declared.kind.Kind.TheVariants.{Unexplained}
 use Rattle.spec_history.specs.Conflict.{line_number, line_has, own_bytes, read_bytes, meeting, written, kind_of}
@@ -30,7 +29,7 @@ use Rattle.homefree.specs.Missed.{IsMissed, IsFurtherStore}
 use Rattle.homefree.specs.Turned.{publishes_unless}
 use Rattle.homefree.proofs.Violations.Knowing.{next_what, IsExplained, PassedHere, AllKnown}
 use Rattle.homefree.proofs.State.Others.{spared_core}
-use Rattle.homefree.proofs.Violations.Sharing.{is_met, is_shared_byte, load_crowded, store_crowded}
+use Rattle.homefree.proofs.Violations.Sharing.{is_met, is_shared_byte, line_in, load_crowded, store_crowded}
 use Rattle.homefree.proofs.Violations.Notices.{writes_none, Bytes, bytes_of, Keeps, hurt_keeps, after, was_there, IsNoLess, IsHurtIn, hurt_here, hurt_still, unhurt_was, hurt_effect, all_known}
 
 -- ---- a core that a call violates
@@ -292,17 +291,20 @@ module _ (C : Type 0) (image : LoadedImage) (count : ℕ) (s : FlatState) (v : S
   store_address : (address width value a w n : ℕ) → Store address width value ≡ Store a w n → address ≡ a
   store_address address width value a w n is = cc
 
+  -- bytes of lines of one number lie in one line of the store
+  one_line : (a b : ℕ) → line_number image a ≡ line_number image b → view.line_of v.shape a ≡ view.line_of v.shape b
+  one_line a b same = ap (λ (y : Shape). view.line_of y a) shape ∙ (ap (λ n. long * n) same ∙ sym (ap (λ (y : Shape). view.line_of y b) shape))
+
   -- a byte of the line is the caller's own
   has_stored : (t : FlatState) (address : ℕ) (d : CoreState) → address < image.size → bytes_of d ≡ bytes_of c → line_has image (line_number image address) (λ a. is_some (d.own a)) ≡ true
       → OwnsIn v by (view.line_of v.shape address)
   has_stored t address d within bytes before =
-      let found = some_below long (λ x. is_some (d.own (line_number image address * long + x))) before in
-      let place : ℕ = line_number image address * long + found.0 in
+      let found = passing_byte image (line_number image address) (λ a. is_some (d.own a)) before in
       record {
-        at = place;
-        within = subst (λ n. place < n) (sym (ap (λ (y : Shape). y.size) shape)) (place_below long address found.0 image.size fits.is.line_length found.1 within fits.whole_lines);
-        in_line = ap (λ (y : Shape). view.line_of y place) shape ∙ (sym (line_of_place long address found.0 fits.is.line_length found.1) ∙ sym (ap (λ (y : Shape). view.line_of y address) shape));
-        owned = mine.own place ∙ (ap (λ (b : Bytes). is_some (b.own place)) (sym bytes) ∙ found.2);
+        at = found.at;
+        within = subst (λ n. found.at < n) (sym (ap (λ (y : Shape). y.size) shape)) found.below;
+        in_line = one_line found.at address found.in_line;
+        owned = mine.own found.at ∙ (ap (λ (b : Bytes). is_some (b.own found.at)) (sym bytes) ∙ found.passes);
       }
 
   pub stores_known : (w : StoreView) (hurt : ℕ → Bool) (t : FlatState) (n j k address width value : ℕ) (q : Victim v j) → address < image.size → Stores v w by address width value hurt → hurt j ≡ true
@@ -378,8 +380,7 @@ module _ (C : Type 0) (image : LoadedImage) (count : ℕ) (s : FlatState) (v : S
       let free = no_less k other d missed.core was.at missed.runs missed.unhurt in
       let g = (agrees.core going k).runs d was.at free in
       let two = and_parts (is_some (read_bytes (t.cores k) missed.at)) _ missed.reads in
-      let found = some_below long (λ x. is_some (written (t.cores by) what (line_number image missed.at * long + x))) two.1 in
-      let place : ℕ = line_number image missed.at * long + found.0 in
+      let found = passing_byte image (line_number image missed.at) (λ a. is_some (written (t.cores by) what a)) two.1 in
       let read : is_some (d.outside missed.at) ≡ true =
       ap (λ o. is_some o) (sym (ap (λ (b : Bytes). b.outside missed.at) was.bytes) ∙ sym (ap (λ o. option_and_then (λ (y : CoreState). y.outside missed.at) o) missed.runs)) ∙ two.0 in
       let some = value_of (d.outside missed.at) read in record {
@@ -388,11 +389,9 @@ module _ (C : Type 0) (image : LoadedImage) (count : ℕ) (s : FlatState) (v : S
         unharmed = free;
         away = other;
         later = subst (λ n. c.epoch < n) (ap (λ (b : Bytes). b.epoch) was.bytes) above;
-        byte = place;
-        writes = found.2;
-        guarded = λ holds. settled.whole_lines (cached holds) k missed.at place
-            (ap (λ (y : Shape). view.line_of y missed.at) shape ∙ (line_of_place long missed.at found.0 fits.is.line_length found.1 ∙ sym (ap (λ (y : Shape). view.line_of y place) shape)))
-            (g.guards_read missed.at some.0 some.1);
+        byte = found.at;
+        writes = found.passes;
+        guarded = λ holds. settled.whole_lines (cached holds) k missed.at found.at (one_line missed.at found.at (sym found.in_line)) (g.guards_read missed.at some.0 some.1);
       }
     where
       no_self : (e c m : ℕ) → e ≡ m → e ≡ c → c < m → ⊥
@@ -412,9 +411,9 @@ module _ (C : Type 0) (image : LoadedImage) (count : ℕ) (s : FlatState) (v : S
   epoch_seen k d runs free = ap epoch_of ((agrees.core going k).runs d runs free).attempt
 
   -- a speculative store passes over those alone who were told of an earlier one to the line
-  pub store_passes : (w : StoreView) (hurt : ℕ → Bool) (t : FlatState) (address width value : ℕ) → c.straight ≡ false → Stores v w by address width value hurt → First hurt count t
+  pub store_passes : (w : StoreView) (hurt : ℕ → Bool) (t : FlatState) (address width value : ℕ) → address < image.size → c.straight ≡ false → Stores v w by address width value hurt → First hurt count t
       → PassedHere C image t (record { by = by; what = Store address width value })
-  store_passes w hurt t address width value speculates l p holds k missed =
+  store_passes w hurt t address width value within speculates l p holds k missed =
       let r = reader_first hurt t (Store address width value) k p missed in
       let me = caller hurt count t p in
       let g : Guards v k (is_accessed address width) =
@@ -432,12 +431,16 @@ module _ (C : Type 0) (image : LoadedImage) (count : ℕ) (s : FlatState) (v : S
         }
         | inr none ↦ absurd (not_told hurt t (Store address width value) k p.told missed r.core r.runs
             (l.tells (cached holds)
-            (λ a same. mine.own a ∙ (ap (λ (b : Bytes). is_some (b.own a)) (sym me.bytes)
-            ∙ (ap (λ n. is_some (me.core.own n)) (sym (own_place long a address fits.is.line_length (sym (ap (λ (y : Shape). view.line_of y a) shape) ∙ (same ∙ ap (λ (y : Shape). view.line_of y address) shape))))
-            ∙ none_below long (λ x. is_some (me.core.own (line_number image address * long + x))) none (a % long) (place_in long a fits.is.line_length))))
+            (λ a same. mine.own a ∙ (ap (λ (b : Bytes). is_some (b.own a)) (sym me.bytes) ∙ unowned me.core none a same))
             k r.away
             (subst (λ n. n < epoch_of (v.attempt k)) (sym (epoch_seen by c at unhurt)) (subst (λ n. c.epoch < n) (sym (epoch_seen k r.core r.runs r.unharmed)) r.later)) g))
       ]
+    where
+      unowned : (core : CoreState) → line_has image (line_number image address) (λ a. is_some (core.own a)) ≡ false
+          → (a : ℕ) → view.line_of v.shape a ≡ view.line_of v.shape address → is_some (core.own a) ≡ false
+      unowned core none a same =
+          let at : line_number image a ≡ line_number image address = line_in image count v.shape a address fits shape same in
+          none_passes image (line_number image address) (λ b. is_some (core.own b)) none a (same_line_below image address a fits (sym at) within) at
 
   -- what commits passes over nobody
   pub commit_passes : (x : StoreView) (hurt : ℕ → Bool) (t : FlatState) (what : What) (b : Bool) → c.straight ≡ b → publishes_unless b v x by hurt
