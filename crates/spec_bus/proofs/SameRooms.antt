@@ -295,7 +295,7 @@ placed_for (Leave core) cores p = tt
 placed_for (Cancel core) cores p = tt
 
 -- they give bytes the same places
-same_place : (v w : CachedView) (addr : ℕ) → HoldTheSame v w → place_of v addr ≡ place_of w addr
+pub same_place : (v w : CachedView) (addr : ℕ) → HoldTheSame v w → place_of v addr ≡ place_of w addr
 same_place v w addr same =
     (λ i. place (record (same_machine i) { apart = sym same.places.apart i }) (sym same.places.size i) (min addr (sym same.places.size i)))
   where
