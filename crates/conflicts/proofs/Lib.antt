@@ -13,3 +13,4 @@ mod Storing
 mod Signs
 mod Walking
 pub mod Reading
+mod LineBytes

@@ -1,11 +1,10 @@
 -- The nearest of the lines in which the victim has stored, and how many there are.
-use Rattle.std.proofs.Common.{◌≡◌, ℕ, zero, suc, ◌+◌, ◌*◌, ◌/◌, ◌<◌, ◌≤◌, ◌==◌, ◌&&◌, not, Bool, true, false, nat_le, nat_lt, is_some, List, length, slice_index, Some, refl, sym, ap, ◌∙◌, inl, inr, arith, le-leb, ltb-true, leb-true, ltb-false}
+use Rattle.std.proofs.Common.{◌≡◌, ℕ, zero, suc, ◌+◌, ◌<◌, ◌≤◌, ◌==◌, ◌&&◌, not, Bool, true, false, nat_le, nat_lt, is_some, List, length, slice_index, Some, refl, sym, ap, ◌∙◌, inl, inr, arith, le-leb, ltb-true, leb-true, ltb-false}
 use Rattle.std.proofs.lemmas.Bool.{cases_eq, lt-leb, false_from_ne_true, and_parts, both_ways}
-use Rattle.std.proofs.lemmas.Nat.{div-mul-add}
 use Rattle.memory_bytes.specs.Shadow.{IsAmong}
 use Rattle.rv32_image.specs.Image.{LoadedImage}
 use Rattle.rv32_image.proofs.SmallFacts.{value_of}
-use Rattle.spec_history.proofs.OneEntry.Legal.{some_below}
+use Rattle.spec_history.proofs.Searches.Lines.{passing_byte}
 use Rattle.spec_history.specs.Searches.{IsNext, count_below}
 use Rattle.spec_history.specs.Conflict.{Meeting, holds_line, line_number}
 use Rattle.conflicts.specs.Parties.{holds_other}
@@ -78,10 +77,10 @@ pub held_line : (image : LoadedImage) (m : Meeting) (addresses : List ℕ) (line
     → holds_other image m line j ≡ true → (k : ℕ) × (k < length addresses) × (line_number image (slice_index addresses k) ≡ j)
 held_line image m addresses line j listed holds =
     let both = and_parts (not (j == line)) (holds_line image m j) holds in
-    let at = some_below image.machine.line_length (λ x. is_some (m.stores (j * image.machine.line_length + x))) both.1 in
-    let byte = value_of (m.stores (j * image.machine.line_length + at.0)) at.2 in
-    let among = listed (j * image.machine.line_length + at.0) byte.0 byte.1 in
-    (among.place, among.within, ap (λ a. a / image.machine.line_length) among.is ∙ div-mul-add j image.machine.line_length at.0 at.1)
+    let found = passing_byte image j (λ a. is_some (m.stores a)) both.1 in
+    let byte = value_of (m.stores found.at) found.passes in
+    let among = listed found.at byte.0 byte.1 in
+    (among.place, among.within, ap (line_number image) among.is ∙ found.in_line)
 
 -- ---- a count that goes from one to the next
 

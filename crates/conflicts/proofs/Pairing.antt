@@ -1,8 +1,6 @@
 -- The store of a blamed byte.
-use Rattle.std.proofs.Common.{◌≡◌, ℕ, ◌+◌, ◌*◌, ◌/◌, ◌<◌, ◌&&◌, Bool, true, false, is_some, List, Option, Some, None, option_map, option_and_then, unwrap_or, refl, ap, ◌==◌, ◌∙◌, arith}
-use Rattle.rv32_image.specs.Image.{LoadedImage, IsImage}
-use Rattle.rv32_image.specs.Machine.{is_line_length}
-use Rattle.rv32_image.proofs.Bounds.{byte_within}
+use Rattle.std.proofs.Common.{◌≡◌, ℕ, ◌<◌, ◌&&◌, Bool, true, false, is_some, List, Some, option_and_then, refl, sym, ap, ◌==◌, ◌∙◌}
+use Rattle.rv32_image.specs.Image.{LoadedImage}
 use Rattle.spec_history.specs.declared.entry.Entry.{Entry}
 use Rattle.spec_history.specs.declared.entry.What.{What}
 use Rattle.spec_history.specs.declared.entry.What.TheVariants.{Start, Load, Store, Hurt, Cancel, Publish, Commit, Fault, Restart}
@@ -10,7 +8,6 @@ use Rattle.spec_history.specs.declared.kind.Kind.{Kind}
 use Rattle.spec_history.specs.declared.kind.Kind.TheVariants.{TrueSharing, SilentStore, FalseSharing, FullBuffer, Unexplained}
 use Rattle.std.proofs.lemmas.Bool.{and_parts, eq-eqb, eqb-true}
 use Rattle.spec_history.specs.Conflict.{Meeting, is_beside, line_number}
-use Rattle.spec_history.specs.Searches.{first_below}
 use Rattle.conflicts.specs.Attempts.{last_store}
 use Rattle.conflicts.specs.Blame.{Violation, blamed_store, goes_with, is_place, store_beside, store_to, stored_by, written_in}
 use Rattle.conflicts.specs.Violated.{has_one_store, is_store}
@@ -81,15 +78,6 @@ through a b c is also = rw (is, also) refl
 
 -- ---- the lowest byte of a line that is written
 
-by_written : (long size line byte : ℕ) (test : ℕ → Bool) (found : Option ℕ) → is_line_length long ≡ true → first_below long test ≡ found → line < size / long
-    → Some byte ≡ option_map (λ (x : ℕ). line * long + x) found → byte < size
-by_written long size line byte test None h at below is = absurd cc
-by_written long size line byte test (Some x) h at below is =
-    let same : byte ≡ line * long + x = ap (λ (o : Option ℕ). unwrap_or o 0) is in
-    omega (arith, same, byte_within long size line x h below (first_found long test x at).within)
-
 -- it lies in memory
-pub beside_within : (image : LoadedImage) (m : Meeting) (line byte : ℕ) → IsImage image → line < image.size / image.machine.line_length → Some byte ≡ written_in image m line → byte < image.size
-beside_within image m line byte allowed below is =
-    by_written image.machine.line_length image.size line byte (λ x. is_some (m.writes (line * image.machine.line_length + x))) _
-    allowed.machine_allowed.is.line_length refl below is
+pub beside_within : (image : LoadedImage) (m : Meeting) (line byte : ℕ) → Some byte ≡ written_in image m line → byte < image.size
+beside_within image m line byte is = (first_found image.size (λ a. (line_number image a == line) && is_some (m.writes a)) byte (sym is)).within

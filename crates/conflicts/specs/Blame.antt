@@ -1,5 +1,6 @@
 -- Which load and which store a violation is blamed on, and at which bytes.
-use Rattle.std.specs.Prelude.{ℕ, ◌+◌, ◌-◌, ◌*◌, ◌==◌, ◌&&◌, not, nat_lt, Bool, false, List, Option, Some, None, is_some, option_and_then, option_map, unwrap_or}
+use Rattle.std.specs.Prelude.{ℕ, ◌+◌, ◌-◌, ◌*◌, ◌/◌, ◌==◌, ◌&&◌, if◌then◌else◌, min, not, nat_lt, Bool, false, List, Option, Some, None, is_some, option_and_then, option_map, unwrap_or}
+use Rattle.rv32_image.specs.declared.apart.Apart.{Apart}
 use Rattle.rv32_image.specs.Image.{LoadedImage}
 use Rattle.spec_history.specs.declared.entry.Entry.{Entry}
 use Rattle.spec_history.specs.declared.entry.What.{What}
@@ -60,11 +61,28 @@ stored_by entries place causer cause what a = last_store entries causer place a
 abbrev pub store_to : List Entry → Violation → ℕ → Option ℕ
 store_to entries v a = stored_by entries v.place v.causer v.cause v.what a
 
+-- the bytes of a piece that has a line of its own
+abbrev pub piece_bytes : Option Apart → ℕ → ByteRange
+piece_bytes None piece = record { first = 0; length = 0 }
+piece_bytes (Some apart) piece = record { first = apart.first + piece * apart.piece; length = min apart.piece (apart.length - piece * apart.piece) }
+
+-- where the bytes of a line are: those of a line of memory are at its addresses, but for those there that lie apart; a line behind memory
+-- has the bytes of a piece
+abbrev pub line_bytes : LoadedImage → ℕ → ByteRange
+line_bytes image line =
+    let long = image.machine.line_length in
+    let lines = image.size / long in
+    if nat_lt line lines then record { first = line * long; length = long } else piece_bytes image.machine.apart (line - lines)
+
+-- where the bytes of the line of a byte are; past memory they are at their addresses
+abbrev pub line_around : LoadedImage → ℕ → ByteRange
+line_around image a =
+    let long = image.machine.line_length in
+    if nat_lt a image.size then line_bytes image (line_number image a) else record { first = a / long * long; length = long }
+
 -- the lowest byte of a line that the cause writes
 abbrev pub written_in : LoadedImage → Meeting → ℕ → Option ℕ
-written_in image m line =
-    let long = image.machine.line_length in
-    option_map (λ x. line * long + x) (first_below long (λ x. is_some (m.writes (line * long + x))))
+written_in image m line = first_below image.size (λ a. (line_number image a == line) && is_some (m.writes a))
 
 -- the store to blame for a byte: that to the byte itself, or, where only the line is shared, to the lowest byte of the line that is written
 abbrev pub store_beside : LoadedImage → List Entry → Violation → Kind → ℕ → Option ℕ
@@ -117,6 +135,12 @@ abbrev pub accessed_line : LoadedImage → What → Option ℕ
 accessed_line image (Load address width value) = Some (line_number image address)
 accessed_line image (Store address width value) = Some (line_number image address)
 accessed_line image what = None
+
+-- where the bytes of that line are
+abbrev pub accessed_bytes : LoadedImage → What → Option ByteRange
+accessed_bytes image (Load address width value) = Some (line_around image address)
+accessed_bytes image (Store address width value) = Some (line_around image address)
+accessed_bytes image what = None
 
 abbrev pub stores_in : LoadedImage → ℕ → What → Bool
 stores_in image line (Store address width value) = line_number image address == line

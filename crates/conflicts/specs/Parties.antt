@@ -6,7 +6,7 @@ use Rattle.conflicts.specs.declared.meeting.Parties.{Parties}
 use Rattle.conflicts.specs.declared.meeting.ByteTest.{ByteTest}
 use Rattle.conflicts.specs.declared.meeting.ByteTest.TheVariants.{Changed, Shared, Beside}
 use Rattle.conflicts.specs.declared.meeting.LineTest.{LineTest}
-use Rattle.conflicts.specs.declared.meeting.LineTest.TheVariants.{Written, Stored}
+use Rattle.conflicts.specs.declared.meeting.LineTest.TheVariants.{Written, Read, Met, Stored}
 use Rattle.spec_history.specs.Conflict.{Meeting, meeting, is_changed, is_shared, is_beside, holds_line}
 
 -- the bytes that meet
@@ -20,6 +20,8 @@ passes image m Beside a = is_beside image m a
 
 abbrev pub is_of : Meeting → LineTest → ℕ → Bool
 is_of m Written a = is_some (m.writes a)
+is_of m Read a = is_some (m.reads a)
+is_of m Met a = is_shared m a
 is_of m Stored a = is_some (m.stores a)
 
 -- it is another line, and the victim has stored in it

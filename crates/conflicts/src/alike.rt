@@ -7,10 +7,10 @@ ghost use Rattle.conflicts.specs.Parties.{meeting_in};
 ghost use Rattle.spec_history.specs.Searches.{first_below, last_below};
 ghost use Rattle.conflicts.specs.Violated as spec;
 
+use crate::addresses::line_number;
 use crate::behind::Behind;
 use crate::blame::Violated;
 use crate::explanation::ByteRange;
-use crate::meeting::line_number;
 use rv32_exec::Image;
 use spec_history::{Entry, Flat, Kind, What};
 

@@ -7,10 +7,11 @@ ghost use Rattle.conflicts.specs.Blame as blame;
 ghost use Rattle.conflicts.specs.Violated as spec;
 
 use crate::accesses::{attempt_place, loaded_at, reads_outside};
+use crate::addresses::line_number;
 use crate::alike::BlamedByte;
 use crate::behind::Behind;
 use crate::explanation::Blame;
-use crate::meeting::{Parties, line_number};
+use crate::meeting::Parties;
 use rv32_exec::Image;
 use spec_history::{Entry, Flat, Kind, What};
 

@@ -7,18 +7,27 @@ ghost use Rattle.conflicts.specs.Blame as blame;
 ghost use Rattle.conflicts.specs.Fates as spec;
 
 use crate::accesses::attempt_place;
-use crate::explanation::Explanation;
-use crate::meeting::line_number;
+use crate::addresses::{line_around, line_number};
+use crate::explanation::{ByteRange, Explanation};
 use rv32_exec::Image;
 use spec_history::{Entry, Kind, What};
 
 /// The number of the line of the caches that an access is to. None: it is no access.
 pub fn accessed_line(image: &Image, what: What) -> Option<u32>
-    ensures line { result ≡ blame.accessed_line image.now what }
-    ensures first { IfSome result (λ line. line * image.now.machine.line_length < 2 ^ 32) }
+    ensures { result ≡ blame.accessed_line image.now what }
 {
     match what {
         What::Load { addr, .. } | What::Store { addr, .. } => Some(line_number(image, addr)),
+        _ => None,
+    }
+}
+
+/// Where the bytes of that line are.
+pub fn accessed_bytes(image: &Image, what: What) -> Option<ByteRange>
+    ensures { result ≡ blame.accessed_bytes image.now what }
+{
+    match what {
+        What::Load { addr, .. } | What::Store { addr, .. } => Some(line_around(image, addr)),
         _ => None,
     }
 }

@@ -2,6 +2,7 @@
 #![tactic(auto)]
 
 mod accesses;
+mod addresses;
 mod ahead;
 mod alike;
 mod behind;
@@ -18,14 +19,15 @@ mod meeting;
 mod standing;
 
 pub use accesses::{attempt_number, attempt_place, begins, reads_outside};
+pub use addresses::{line_bytes, line_number};
 pub use alike::BlamedByte;
 pub use behind::Behind;
 pub use blame::Violated;
 pub use causes::core_at;
 pub use explanation::{Blame, ByteRange, Explanation, Runner};
-pub use held::accessed_line;
+pub use held::{accessed_bytes, accessed_line};
 pub use history::{explain, explanation_at};
 pub use known::Known;
-pub use meeting::{Parties, line_number};
+pub use meeting::{LineTest, Parties};
 pub use spec_history::Kind;
 pub use standing::{Site, site_of, sites};

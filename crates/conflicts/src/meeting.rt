@@ -1,14 +1,14 @@
 //! The bytes that meet in a violation, and its kind.
 
-ghost use Rattle.std.specs.Prelude.{◌≡◌, ◌<◌, ◌≤◌, ◌+◌, ◌*◌, ◌/◌, ◌^◌, ◌&&◌, nat_le, nat_lt};
+ghost use Rattle.std.specs.Prelude.{◌≡◌, ◌<◌, ◌==◌, ◌&&◌, nat_le, nat_lt};
 ghost use Rattle.memory_bytes.specs.Maps.{stored};
-ghost use Rattle.rv32_image.specs.Image.{IsImage};
 ghost use Rattle.spec_history.specs.Refusal.{any_below};
 ghost use Rattle.spec_history.specs.Searches.{IsNext, count_below};
 ghost use Rattle.conflicts.specs.Blame as blame;
 ghost use Rattle.spec_history.specs.Conflict as conflict;
 ghost use Rattle.conflicts.specs.Parties as spec;
 
+use crate::addresses::{line_bytes, line_number, lines_of};
 use rv32_exec::Image;
 use spec_history::{Flat, Kind, What};
 
@@ -34,12 +34,16 @@ pub(crate) enum ByteTest {
     Beside,
 }
 
-/// What is asked of a line.
+/// What is asked of the bytes of a line.
 #[derive(Clone, Copy)]
-pub(crate) enum LineTest {
-    /// The cause writes it.
+pub enum LineTest {
+    /// The cause writes one.
     Written,
-    /// The victim has stored in it.
+    /// The victim has read one.
+    Read,
+    /// The victim has read one that the cause writes.
+    Met,
+    /// The victim has stored one.
     Stored,
 }
 
@@ -100,18 +104,27 @@ impl Parties {
     {
         match test {
             LineTest::Written => self.written(flat, addr).is_some(),
+            LineTest::Read => flat.outside(self.victim, addr).is_some(),
+            LineTest::Met => self.is_shared(flat, addr),
             LineTest::Stored => flat.own(self.victim, addr).is_some(),
         }
     }
 
-    /// Some byte of the line passes the test.
-    fn line_has(&self, image: &Image, flat: &Flat, test: LineTest, line: u32) -> bool
-        requires { line * image.now.machine.line_length + image.now.machine.line_length < 2 ^ 32 }
+    /// The byte lies in the line, and passes the test of it.
+    fn is_of_line(&self, image: &Image, flat: &Flat, test: LineTest, line: u32, addr: u32) -> bool
+        ensures { result ≡ ((conflict.line_number image.now addr == line) && spec.is_of (spec.meeting_in flat.now self.now) test addr) }
+    {
+        line_number(image, addr) == line && self.is_of(flat, test, addr)
+    }
+
+    /// Some byte of memory that lies in the line passes the test.
+    pub fn line_has(&self, image: &Image, flat: &Flat, test: LineTest, line: u32) -> bool
+        requires { line < conflict.line_count image.now }
         ensures { result ≡ conflict.line_has image.now line (spec.is_of (spec.meeting_in flat.now self.now) test) }
     {
-        let long = image.machine().line_length;
-        for x in 0..long {
-            if self.is_of(flat, test, line * long + x) {
+        let bytes = line_bytes(image, line);
+        for addr in bytes.first..bytes.first + bytes.length {
+            if self.is_of_line(image, flat, test, line, addr) {
                 return true;
             }
         }
@@ -120,13 +133,13 @@ impl Parties {
 
     /// The lowest byte of the line that the cause writes.
     pub fn written_in(&self, image: &Image, flat: &Flat, line: u32) -> Option<u32>
-        requires { line * image.now.machine.line_length + image.now.machine.line_length < 2 ^ 32 }
+        requires { line < conflict.line_count image.now }
         ensures { result ≡ blame.written_in image.now (spec.meeting_in flat.now self.now) line }
     {
-        let long = image.machine().line_length;
-        for x in 0..long {
-            if self.written(flat, line * long + x).is_some() {
-                return Some(line * long + x);
+        let bytes = line_bytes(image, line);
+        for addr in bytes.first..bytes.first + bytes.length {
+            if self.is_of_line(image, flat, LineTest::Written, line, addr) {
+                return Some(addr);
             }
         }
         None
@@ -169,7 +182,7 @@ impl Parties {
 
     /// It is another line, and the victim has stored in it.
     fn holds_other(&self, image: &Image, flat: &Flat, line: u32, other: u32) -> bool
-        requires { other * image.now.machine.line_length + image.now.machine.line_length < 2 ^ 32 }
+        requires { other < conflict.line_count image.now }
         ensures { result ≡ spec.holds_other image.now (spec.meeting_in flat.now self.now) line other }
     {
         other != line && self.line_has(image, flat, LineTest::Stored, other)
@@ -185,7 +198,7 @@ impl Parties {
         next: u32,
         other: u32,
     ) -> bool
-        requires { other * image.now.machine.line_length + image.now.machine.line_length < 2 ^ 32 }
+        requires { other < conflict.line_count image.now }
         ensures { result ≡ (nat_le from other && (nat_lt other next && spec.holds_other image.now (spec.meeting_in flat.now self.now) line other)) }
     {
         from <= other && other < next && self.holds_other(image, flat, line, other)
@@ -195,8 +208,7 @@ impl Parties {
     /// has is among those of the bytes that it has stored, so no other is tried.
     fn next_beside(&self, image: &Image, flat: &Flat, line: u32, from: u32) -> u32
         requires { flat.now.image ≡ image.now }
-        ensures { IsNext (spec.holds_other image.now (spec.meeting_in flat.now self.now) line) from
-            (image.now.size / image.now.machine.line_length) result }
+        ensures { IsNext (spec.holds_other image.now (spec.meeting_in flat.now self.now) line) from (conflict.line_count image.now) result }
     {
         let mut next = lines_of(image);
         for addr in flat.own_addresses(self.victim) {
@@ -211,7 +223,7 @@ impl Parties {
     /// The victim has stored in so many other lines.
     fn holds_beside(&self, image: &Image, flat: &Flat, line: u32, wanted: u32) -> bool
         requires { flat.now.image ≡ image.now }
-        ensures { result ≡ nat_le wanted (count_below (image.now.size / image.now.machine.line_length)
+        ensures { result ≡ nat_le wanted (count_below (conflict.line_count image.now)
             (spec.holds_other image.now (spec.meeting_in flat.now self.now) line)) }
     {
         let lines = lines_of(image);
@@ -229,7 +241,7 @@ impl Parties {
     /// The victim has stored in the line, and in as many other lines as its buffer takes.
     fn is_full_at(&self, image: &Image, flat: &Flat, line: u32) -> bool
         requires image { flat.now.image ≡ image.now }
-        requires within { line * image.now.machine.line_length + image.now.machine.line_length < 2 ^ 32 }
+        requires within { line < conflict.line_count image.now }
         ensures { result ≡ conflict.is_full_at image.now (spec.meeting_in flat.now self.now) line }
     {
         self.line_has(image, flat, LineTest::Stored, line)
@@ -266,22 +278,4 @@ impl Parties {
             Kind::Unexplained
         }
     }
-}
-
-/// How many lines of the caches memory has.
-fn lines_of(image: &Image) -> u32
-    ensures { result ≡ image.now.size / image.now.machine.line_length }
-{
-    image.size() / image.machine().line_length
-}
-
-/// The number of the line of the caches in which a byte lies, in memory or not.
-pub fn line_number(image: &Image, addr: u32) -> u32
-    ensures line { result ≡ conflict.line_number image.now addr }
-    ensures first { result * image.now.machine.line_length ≤ addr }
-    ensures inside { addr < image.now.size → result < image.now.size / image.now.machine.line_length }
-    ensures within { addr < image.now.size → result * image.now.machine.line_length + image.now.machine.line_length < 2 ^ 32 }
-    ensures limits { IsImage image.now }
-{
-    addr / image.machine().line_length
 }

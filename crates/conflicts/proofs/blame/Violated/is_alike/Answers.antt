@@ -1,4 +1,4 @@
-use Rattle.std.proofs.Common.{◌≡◌, ◌∙◌, ℕ, Option, Some, true, refl, sym, ap}
+use Rattle.std.proofs.Common.{◌≡◌, ◌∙◌, ℕ, Option, true, sym, ap}
 use Rattle.conflicts.specs.Blame.{blamed_store, goes_with, is_place, read_at}
 use Rattle.conflicts.specs.Violated.{violation_in}
 use Rattle.conflicts.proofs.Pairing.{by_last_store, by_one_store, is_there, through}

@@ -12,7 +12,7 @@ pub store_to-requires-clause-within : goal.store_to-requires-clause-within
 store_to-requires-clause-within c =
     let beside = c.in_ok-beside-in-FalseSharing.beside in
     subst (λ (i : LoadedImage). beside < i.size) (sym c.requires.image)
-    (beside_within c.args.image.now (meeting_in c.args.flat.now c.args.self.now.parties) c.line_number.result beside c.line_number.ensures.limits (c.line_number.ensures.inside c.requires.within) c.in_ok-beside-in-FalseSharing.ensures)
+    (beside_within c.args.image.now (meeting_in c.args.flat.now c.args.self.now.parties) c.line_number.result beside c.in_ok-beside-in-FalseSharing.ensures)
 
 pub store_to-requires-in_default : goal.store_to-requires-in_default
 store_to-requires-in_default c = record {

@@ -1,22 +1,32 @@
-use Rattle.std.proofs.Common.{◌≡◌, ◌<◌, ◌+◌, ◌*◌, ℕ, true, sym, ap, ◌∙◌, arith}
-use Rattle.rv32_image.specs.declared.machine.Machine.{Machine}
+use Rattle.std.proofs.Common.{◌≡◌, ◌<◌, ◌≤◌, ◌+◌, ◌==◌, ◌&&◌, ℕ, Bool, false, nat_lt, inl, inr, sym, ◌∙◌, arith, ltb-true, ltb-false}
+use Rattle.spec_history.specs.Conflict.{line_number}
 use Rattle.spec_history.proofs.Searches.Tests.{all_fail, one_passes}
 use Rattle.conflicts.specs.Parties.{meeting_in, is_of}
+use Rattle.conflicts.proofs.Blaming.{either_way}
+use Rattle.conflicts.proofs.LineBytes.{not_there}
 use Rattle.conflicts.proofs.meeting.Parties.line_has.Goals as goal
 
-pub returns-then-is_of : goal.returns-then-is_of
-returns-then-is_of c =
-    let m = meeting_in c.args.flat.now c.args.self.now in
-    let long = c.args.image.now.machine.line_length in
-    let same : c.machine-long.result.line_length ≡ long = ap (λ (m : Machine). m.line_length) c.machine-long.ensures.machine in
-    let below : c.loop-x.x < long = omega (arith, same, c.loop-x-test.true) in
-    let passes : is_of m c.args.test (c.args.line * long + c.loop-x.x) ≡ true =
-    ap (λ (n : ℕ). is_of m c.args.test (c.args.line * n + c.loop-x.x)) (sym same) ∙ (sym c.is_of.ensures ∙ c.if-is_of.true) in
-    sym (one_passes long (λ x. is_of m c.args.test (c.args.line * long + x)) c.loop-x.x below passes)
+pub loop-addr-init : goal.loop-addr-init
+loop-addr-init c = λ a below.
+    let bytes = c.line_bytes-bytes.result in
+    not_there c.args.image.now c.args.line a bytes.first (bytes.first + bytes.length) (λ a. is_of (meeting_in c.args.flat.now c.args.self.now) c.args.test a)
+    c.line_bytes-bytes.ensures.all (omega (arith, below, c.line_bytes-bytes.ensures.within)) (inl below)
+
+pub returns-then-is_of_line : goal.returns-then-is_of_line
+returns-then-is_of_line c =
+    let image = c.args.image.now in
+    let test : ℕ → Bool = λ a. is_of (meeting_in c.args.flat.now c.args.self.now) c.args.test a in
+    let below : c.loop-addr.addr < image.size = omega (arith, c.loop-addr-test.true, c.line_bytes-bytes.ensures.within) in
+    sym (one_passes image.size (λ a. (line_number image a == c.args.line) && test a) c.loop-addr.addr below (sym c.is_of_line.ensures ∙ c.if-is_of_line.true))
 
 pub returns : goal.returns
 returns c =
-    let m = meeting_in c.args.flat.now c.args.self.now in
-    let long = c.args.image.now.machine.line_length in
-    let same : c.machine-long.result.line_length ≡ long = ap (λ (m : Machine). m.line_length) c.machine-long.ensures.machine in
-    sym (all_fail long (λ x. is_of m c.args.test (c.args.line * long + x)) (λ k below. c.loop-x.invariant k (omega (arith, below, same, c.loop-x-test.false))))
+    let image = c.args.image.now in
+    let bytes = c.line_bytes-bytes.result in
+    let test : ℕ → Bool = λ a. (line_number image a == c.args.line) && is_of (meeting_in c.args.flat.now c.args.self.now) c.args.test a in
+    sym (all_fail image.size test (λ a inside. either_way (nat_lt a c.loop-addr.addr) (test a ≡ false)
+    (λ early. c.loop-addr.invariant a (ltb-true a c.loop-addr.addr early))
+    (λ late.
+    let past : c.loop-addr.addr ≤ a = ltb-false a c.loop-addr.addr late in
+    not_there image c.args.line a bytes.first (bytes.first + bytes.length) (λ a. is_of (meeting_in c.args.flat.now c.args.self.now) c.args.test a)
+    c.line_bytes-bytes.ensures.all inside (inr (omega (arith, past, c.loop-addr-test.false))))))

@@ -1,7 +1,8 @@
-use Rattle.std.proofs.Common.{◌≡◌, ◌<◌, ◌+◌, ◌*◌, ℕ, false}
+use Rattle.std.proofs.Common.{◌≡◌, ◌<◌, ◌==◌, ◌&&◌, ℕ, false}
+use Rattle.spec_history.specs.Conflict.{line_number}
 use Rattle.conflicts.specs.Parties.{meeting_in, is_of}
 use Rattle.conflicts.proofs.meeting.Parties.line_has.Given as goal
 
--- none so far passes
-abbrev pub invariant-loop-x : goal.invariant-loop-x
-invariant-loop-x l = (y : ℕ) → y < l.x → is_of (meeting_in l.flat l.self) l.test (l.line * l.image.machine.line_length + y) ≡ false
+-- none so far lies in the line and passes
+abbrev pub invariant-loop-addr : goal.invariant-loop-addr
+invariant-loop-addr l = (a : ℕ) → a < l.addr → ((line_number l.image a == l.line) && is_of (meeting_in l.flat l.self) l.test a) ≡ false

@@ -1,5 +1,5 @@
-use Rattle.std.proofs.Common.{◌/◌, ◌&&◌, ℕ, Bool, nat_le, nat_lt, slice_index, sym, ap, ◌∙◌, arith}
-use Rattle.spec_history.specs.Conflict.{line_number}
+use Rattle.std.proofs.Common.{◌&&◌, ℕ, Bool, nat_le, nat_lt, slice_index, sym, ap, ◌∙◌, arith}
+use Rattle.spec_history.specs.Conflict.{line_count, line_number}
 use Rattle.conflicts.specs.Parties.{holds_other, meeting_in}
 use Rattle.conflicts.proofs.Nearing.{held_line, nearer, next_of, no_nearer, none_tried}
 use Rattle.conflicts.proofs.meeting.Parties.next_beside.Goals as goal
@@ -10,7 +10,7 @@ loop-addr-init c = rw c.lines_of-next.ensures (none_tried _ _ _ _)
 
 pub loop-addr-preserved : goal.loop-addr-preserved
 loop-addr-preserved c =
-    let end = c.args.image.now.size / c.args.image.now.machine.line_length in
+    let end = line_count c.args.image.now in
     let lines : ℕ → ℕ = λ k. line_number c.args.image.now (slice_index c.own_addresses-addr-items.result.now k) in
     let test : ℕ → Bool = holds_other c.args.image.now (meeting_in c.args.flat.now c.args.self.now) c.args.line in
     let was = c.loop-addr.invariant in
@@ -27,7 +27,7 @@ returns c =
     let m = meeting_in c.args.flat.now c.args.self.now in
     let addresses = c.own_addresses-addr-items.result.now in
     next_of (λ k. line_number c.args.image.now (slice_index addresses k)) (holds_other c.args.image.now m c.args.line) c.args.from
-    (c.args.image.now.size / c.args.image.now.machine.line_length) c.loop-addr.addr-index c.loop-addr.next c.loop-addr.invariant
+    (line_count c.args.image.now) c.loop-addr.addr-index c.loop-addr.next c.loop-addr.invariant
     (λ j passes.
     let at = held_line c.args.image.now m addresses c.args.line j c.own_addresses-addr-items.ensures.each passes in
     (at.0, omega (arith, at.1, c.loop-addr-test.false), at.2))

@@ -1,5 +1,5 @@
-use Rattle.std.proofs.Common.{◌/◌, slice_index}
-use Rattle.spec_history.specs.Conflict.{line_number}
+use Rattle.std.proofs.Common.{slice_index}
+use Rattle.spec_history.specs.Conflict.{line_count, line_number}
 use Rattle.conflicts.specs.Parties.{holds_other, meeting_in}
 use Rattle.conflicts.proofs.Nearing.{Nearest}
 use Rattle.conflicts.proofs.meeting.Parties.next_beside.Given as goal
@@ -7,4 +7,4 @@ use Rattle.conflicts.proofs.meeting.Parties.next_beside.Given as goal
 -- the nearest so far
 abbrev pub invariant-loop-addr : goal.invariant-loop-addr
 invariant-loop-addr l =
-    Nearest (λ k. line_number l.image (slice_index l.addr-items k)) (holds_other l.image (meeting_in l.flat l.self) l.line) l.from (l.image.size / l.image.machine.line_length) l.addr-index l.next
+    Nearest (λ k. line_number l.image (slice_index l.addr-items k)) (holds_other l.image (meeting_in l.flat l.self) l.line) l.from (line_count l.image) l.addr-index l.next

@@ -1,25 +1,32 @@
-use Rattle.std.proofs.Common.{◌≡◌, ◌<◌, ◌+◌, ◌*◌, ℕ, Bool, true, Some, is_some, option_map, sym, ap, ◌∙◌, arith}
-use Rattle.rv32_image.specs.declared.machine.Machine.{Machine}
-use Rattle.conflicts.specs.Parties.{meeting_in}
+use Rattle.std.proofs.Common.{◌≡◌, ◌<◌, ◌≤◌, ◌+◌, ◌==◌, ◌&&◌, ℕ, Bool, false, is_some, nat_lt, inl, inr, sym, ◌∙◌, arith, ltb-true, ltb-false}
+use Rattle.spec_history.specs.Conflict.{line_number}
 use Rattle.spec_history.proofs.Searches.Tests.{first_at, first_none}
+use Rattle.conflicts.specs.Parties.{meeting_in}
+use Rattle.conflicts.proofs.Blaming.{either_way}
+use Rattle.conflicts.proofs.LineBytes.{not_there}
 use Rattle.conflicts.proofs.meeting.Parties.written_in.Goals as goal
 
-pub returns-then-is_some : goal.returns-then-is_some
-returns-then-is_some c =
-    let m = meeting_in c.args.flat.now c.args.self.now in
-    let long = c.args.image.now.machine.line_length in
-    let same : c.machine-long.result.line_length ≡ long = ap (λ (m : Machine). m.line_length) c.machine-long.ensures.machine in
-    let test : ℕ → Bool = λ x. is_some (m.writes (c.args.line * long + x)) in
-    let below : c.loop-x.x < long = omega (arith, same, c.loop-x-test.true) in
-    let passes : test c.loop-x.x ≡ true =
-    ap (λ (n : ℕ). is_some (m.writes (c.args.line * n + c.loop-x.x))) (sym same) ∙ (ap is_some (sym c.written.ensures) ∙ (sym c.is_some.ensures ∙ c.if-is_some.true)) in
-    ap (λ (n : ℕ). Some (c.args.line * n + c.loop-x.x)) same
-    ∙ sym (ap (option_map (λ (x : ℕ). c.args.line * long + x)) (first_at long test c.loop-x.x below passes c.loop-x.invariant))
+pub loop-addr-init : goal.loop-addr-init
+loop-addr-init c = λ a below.
+    let bytes = c.line_bytes-bytes.result in
+    not_there c.args.image.now c.args.line a bytes.first (bytes.first + bytes.length) (λ a. is_some ((meeting_in c.args.flat.now c.args.self.now).writes a))
+    c.line_bytes-bytes.ensures.all (omega (arith, below, c.line_bytes-bytes.ensures.within)) (inl below)
+
+pub returns-then-is_of_line : goal.returns-then-is_of_line
+returns-then-is_of_line c =
+    let image = c.args.image.now in
+    let test : ℕ → Bool = λ a. (line_number image a == c.args.line) && is_some ((meeting_in c.args.flat.now c.args.self.now).writes a) in
+    let below : c.loop-addr.addr < image.size = omega (arith, c.loop-addr-test.true, c.line_bytes-bytes.ensures.within) in
+    sym (first_at image.size test c.loop-addr.addr below (sym c.is_of_line.ensures ∙ c.if-is_of_line.true) c.loop-addr.invariant)
 
 pub returns : goal.returns
 returns c =
-    let m = meeting_in c.args.flat.now c.args.self.now in
-    let long = c.args.image.now.machine.line_length in
-    let same : c.machine-long.result.line_length ≡ long = ap (λ (m : Machine). m.line_length) c.machine-long.ensures.machine in
-    let test : ℕ → Bool = λ x. is_some (m.writes (c.args.line * long + x)) in
-    sym (ap (option_map (λ (x : ℕ). c.args.line * long + x)) (first_none long test (λ k below. c.loop-x.invariant k (omega (arith, below, same, c.loop-x-test.false)))))
+    let image = c.args.image.now in
+    let bytes = c.line_bytes-bytes.result in
+    let test : ℕ → Bool = λ a. (line_number image a == c.args.line) && is_some ((meeting_in c.args.flat.now c.args.self.now).writes a) in
+    sym (first_none image.size test (λ a inside. either_way (nat_lt a c.loop-addr.addr) (test a ≡ false)
+    (λ early. c.loop-addr.invariant a (ltb-true a c.loop-addr.addr early))
+    (λ late.
+    let past : c.loop-addr.addr ≤ a = ltb-false a c.loop-addr.addr late in
+    not_there image c.args.line a bytes.first (bytes.first + bytes.length) (λ a. is_some ((meeting_in c.args.flat.now c.args.self.now).writes a))
+    c.line_bytes-bytes.ensures.all inside (inr (omega (arith, past, c.loop-addr-test.false))))))
