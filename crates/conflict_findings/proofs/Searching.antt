@@ -1,5 +1,5 @@
 -- Which addresses were read, and those in order.
-use Rattle.std.proofs.Common.{◌≡◌, ℕ, ◌+◌, ◌*◌, ◌/◌, ◌<◌, ◌≤◌, ◌==◌, Bool, true, false, cond, is_some, nat_lt, List, length, slice_index, Option, Some, refl, ap, subst, ◌∙◌, arith, ltb-true, ltb-false}
+use Rattle.std.proofs.Common.{◌≡◌, ℕ, ◌<◌, ◌≤◌, ◌==◌, Bool, true, false, cond, is_some, nat_lt, List, length, slice_index, Option, Some, refl, ap, subst, ◌∙◌, arith, ltb-true, ltb-false}
 use Rattle.std.proofs.lemmas.Bool.{and_parts}
 use Rattle.std.specs.List.Sorted.{IsPermutation, IsSorted}
 use Rattle.std.specs.Ordering.{is_lt, nat_cmp}
@@ -8,15 +8,13 @@ use Rattle.std.proofs.lemmas.Cmp.{nat_cmp_total}
 use Rattle.std.proofs.lemmas.List.{get_or_default}
 use Rattle.std.proofs.lemmas.List.Elements.{Contains-get_or}
 use Rattle.std.proofs.lemmas.List.Sorted.{Contains-permutation, IsPermutation-sym, ranks_by, sorted_far}
-use Rattle.std.proofs.lemmas.Nat.{div-mul-add}
 use Rattle.memory_bytes.specs.Shadow.{IsAmong}
 use Rattle.rv32_image.specs.Image.{LoadedImage}
-use Rattle.rv32_image.proofs.Bounds.{number_up}
 use Rattle.rv32_image.proofs.SmallFacts.{value_of}
-use Rattle.spec_history.proofs.OneEntry.Legal.{some_below}
-use Rattle.spec_history.specs.Conflict.{Meeting, is_shared, line_has, line_number}
+use Rattle.spec_history.proofs.Searches.Lines.{passing_byte}
+use Rattle.spec_history.specs.Conflict.{Meeting, is_shared, line_count, line_has, line_number}
 use Rattle.conflicts.proofs.Blaming.{either_way}
-use Rattle.conflict_findings.specs.Runs.{AreRead, is_falsely_shared}
+use Rattle.conflict_findings.specs.Runs.{AreLinesRead, AreRead, is_falsely_shared}
 
 -- ---- addresses that were read
 
@@ -27,17 +25,14 @@ shared_listed m addresses a listed shared =
     let byte = value_of (m.reads a) (and_parts (is_some (m.writes a)) (is_some (m.reads a)) shared).1 in
     let among = listed a byte.0 byte.1 in (among.place, among.within, among.is)
 
--- a falsely shared line is that of one of them
-pub line_listed : (image : LoadedImage) (m : Meeting) (addresses : List ℕ) (j : ℕ) → ((a byte : ℕ) → m.reads a ≡ Some byte → IsAmong a addresses) → is_falsely_shared image m j ≡ true
-    → (k : ℕ) × (k < length addresses) × (line_number image (slice_index addresses k) ≡ j)
-line_listed image m addresses j listed is =
+-- a falsely shared line is among those of them
+pub line_listed : (image : LoadedImage) (m : Meeting) (lines : List ℕ) (j : ℕ) → ((a byte : ℕ) → m.reads a ≡ Some byte → IsAmong (line_number image a) lines)
+    → is_falsely_shared image m j ≡ true → (k : ℕ) × (k < length lines) × (slice_index lines k ≡ j)
+line_listed image m lines j listed is =
     let read = (and_parts (line_has image j (λ a. is_some (m.reads a))) _ is).0 in
-    let at = some_below image.machine.line_length (λ x. is_some (m.reads (j * image.machine.line_length + x))) read in
-    let byte = value_of (m.reads (j * image.machine.line_length + at.0)) at.2 in
-    let among = listed (j * image.machine.line_length + at.0) byte.0 byte.1 in
-    (among.place, among.within, ap (λ a. a / image.machine.line_length) among.is ∙ div-mul-add j image.machine.line_length at.0 at.1)
-
--- ---- lines of memory
+    let found = passing_byte image j (λ a. is_some (m.reads a)) read in
+    let byte = value_of (m.reads found.at) found.passes in
+    let among = listed found.at byte.0 byte.1 in (among.place, among.within, among.is ∙ found.in_line)
 
 -- ---- those in order
 
@@ -66,19 +61,28 @@ ordered size reads old mid new same within each rank sorted = let moved = subst 
       record { place = at.0; within = at.1; is = get_or_default new at.0 0 a at.1 ∙ at.2 };
 }
 
--- a byte that was read and stands before the one with an index is among those before it
-pub not_between : (size : ℕ) (reads : ℕ → Option ℕ) (addresses : List ℕ) (index from j k : ℕ) → AreRead size reads addresses → index < length addresses
-    → ((k : ℕ) → k < index → slice_index addresses k < from) → from ≤ j → j < slice_index addresses index → k < length addresses → slice_index addresses k ≡ j → ⊥
-not_between size reads addresses index from j k are inside passed after before within is = either_way (nat_lt k index) ⊥
-    (λ early. let less = passed k (ltb-true k index early) in omega (arith, less, is, after))
-    (λ late. let more = rise addresses are.ordered index k (ltb-false k index late) within in omega (arith, more, is, before))
+-- the lines of those, put in order
+pub lines_ordered : (image : LoadedImage) (reads : ℕ → Option ℕ) (addresses old mid new : List ℕ) → length old ≡ length addresses
+    → ((k : ℕ) → k < length addresses → slice_index old k ≡ line_number image (slice_index addresses k))
+    → ((k : ℕ) → k < length addresses → slice_index addresses k < image.size → slice_index old k < line_count image) → mid ≡ old → IsPermutation mid new → IsSorted nat_cmp new
+    → AreRead image.size reads addresses → AreLinesRead image reads new
+lines_ordered image reads addresses old mid new long each within same rank sorted are = let moved = subst (λ xs. IsPermutation xs new) same rank in record {
+  ordered = sorted;
+  within = λ place below.
+      let a = slice_index new place in
+      let at = Contains-permutation new old a (IsPermutation-sym old new moved) (Contains-get_or new place 0 below) in
+      subst (λ n. n < line_count image) (get_or_default old at.0 0 a at.1 ∙ at.2) (within at.0 (omega (arith, at.1, long)) (are.within at.0 (omega (arith, at.1, long))));
+  each = λ a byte is.
+      let among = are.each a byte is in
+      let inside : among.place < length old = omega (arith, among.within, long) in
+      let number : slice_index old among.place ≡ line_number image a = each among.place among.within ∙ ap (line_number image) among.is in
+      let at = Contains-permutation old new (line_number image a) moved (among.place, inside, get_or_default old among.place (line_number image a) 0 inside ∙ number) in
+      record { place = at.0; within = at.1; is = get_or_default new at.0 0 (line_number image a) at.1 ∙ at.2 };
+}
 
--- and so is a line
-pub no_line_between : (image : LoadedImage) (reads : ℕ → Option ℕ) (addresses : List ℕ) (index from j k : ℕ) → AreRead image.size reads addresses → index < length addresses
-    → ((k : ℕ) → k < index → line_number image (slice_index addresses k) < from) → from ≤ j → j < line_number image (slice_index addresses index) → k < length addresses
-    → line_number image (slice_index addresses k) ≡ j → ⊥
-no_line_between image reads addresses index from j k are inside passed after before within is = either_way (nat_lt k index) ⊥
+-- one of them that stands before the one with an index is among those before it
+pub not_between : (addresses : List ℕ) (index from j k : ℕ) → IsSorted nat_cmp addresses → index < length addresses
+    → ((k : ℕ) → k < index → slice_index addresses k < from) → from ≤ j → j < slice_index addresses index → k < length addresses → slice_index addresses k ≡ j → ⊥
+not_between addresses index from j k ordered inside passed after before within is = either_way (nat_lt k index) ⊥
     (λ early. let less = passed k (ltb-true k index early) in omega (arith, less, is, after))
-    (λ late.
-    let more = number_up image.machine.line_length (slice_index addresses index) (slice_index addresses k) (rise addresses are.ordered index k (ltb-false k index late) within) in
-    omega (arith, more, is, before))
+    (λ late. let more = rise addresses ordered index k (ltb-false k index late) within in omega (arith, more, is, before))

@@ -1,7 +1,7 @@
 -- What is found of a violation: all that is told and summed of it. Its explanation has whom to blame; here stand the two accesses
 -- with their instructions, where they met, what it cost, and what became of it.
 -- Source: this project.
-use Rattle.std.specs.Prelude.{ℕ, ◌*◌, ◌-◌, List, Option, Some, None, is_some, map, slice_get, option_and_then, option_map}
+use Rattle.std.specs.Prelude.{ℕ, ◌-◌, List, Option, Some, None, is_some, map, slice_get, option_and_then, option_map}
 use Rattle.rv32_image.specs.Image.{LoadedImage}
 use Rattle.spec_history.specs.declared.entry.Entry.{Entry}
 use Rattle.spec_history.specs.FlatState.{FlatState}
@@ -13,7 +13,7 @@ use Rattle.spec_history.specs.declared.kind.Kind.{Kind}
 use Rattle.spec_history.specs.declared.kind.Kind.TheVariants.{FullBuffer}
 use Rattle.conflicts.specs.declared.standing.Site.{Site}
 use Rattle.conflicts.specs.Attempts.{attempt_number, state_before}
-use Rattle.conflicts.specs.Blame.{accessed_line}
+use Rattle.conflicts.specs.Blame.{accessed_bytes, accessed_line}
 use Rattle.spec_history.specs.Conflict.{line_number, what_at}
 use Rattle.conflicts.specs.Fates.{held_at, is_stale_pair, moot_at, since, undone_at}
 use Rattle.conflict_findings.specs.declared.finding.Access.{Access}
@@ -70,13 +70,9 @@ met_line_by image None asked = asked
 abbrev pub met_line : LoadedImage → List Entry → Explanation → Option ℕ
 met_line image entries e = met_line_by image e.blame (asked_line image entries e)
 
--- the bytes of the line of the caches that has this number
-abbrev pub bytes_of_line : LoadedImage → ℕ → ByteRange
-bytes_of_line image line = record { first = line * image.machine.line_length; length = image.machine.line_length }
-
--- those of the line that was asked for
+-- where the bytes of that line are
 abbrev pub asked_bytes : LoadedImage → List Entry → Explanation → Option ByteRange
-asked_bytes image entries e = option_map (bytes_of_line image) (asked_line image entries e)
+asked_bytes image entries e = option_and_then (accessed_bytes image) (what_at entries (asked_at e))
 
 -- the bytes around the blamed one that met alike, or the line that was asked for
 abbrev pub met_bytes_by : Option Blame → Option ByteRange → Option ByteRange

@@ -1,6 +1,6 @@
 -- The further runs of bytes at which two epochs met in a violation, beside the one that is blamed.
 -- Source: this project.
-use Rattle.std.specs.Prelude.{◌≡◌, ◌<◌, ℕ, zero, suc, ◌+◌, ◌*◌, ◌/◌, ◌==◌, ◌&&◌, not, nat_lt, Bool, false, length, slice_index, List, [], ◌++◌, Option, Some, None, is_some, option_and_then, option_map, option_to_list, if◌then◌else◌}
+use Rattle.std.specs.Prelude.{◌≡◌, ◌<◌, ℕ, zero, suc, ◌+◌, ◌==◌, ◌&&◌, not, nat_lt, Bool, false, length, slice_index, List, [], ◌++◌, Option, Some, None, is_some, option_and_then, option_map, option_to_list, if◌then◌else◌}
 use Rattle.std.specs.List.Sorted.{IsSorted}
 use Rattle.std.specs.Ordering.{nat_cmp}
 use Rattle.memory_bytes.specs.Shadow.{IsAmong}
@@ -15,9 +15,9 @@ use Rattle.conflicts.specs.declared.explanation.Explanation.{Explanation}
 use Rattle.spec_history.specs.declared.kind.Kind.{Kind}
 use Rattle.spec_history.specs.declared.kind.Kind.TheVariants.{TrueSharing, SilentStore, FalseSharing}
 use Rattle.spec_history.specs.Searches.{first_below}
-use Rattle.conflicts.specs.Attempts.{covers, reads_outside, state_before}
-use Rattle.conflicts.specs.Blame.{Violation, blamed_range, blamed_store, read_at, written_in}
-use Rattle.spec_history.specs.Conflict.{Meeting, is_changed, is_shared, line_has, meeting, what_at}
+use Rattle.conflicts.specs.Attempts.{covers, first_read, reads_outside, state_before}
+use Rattle.conflicts.specs.Blame.{Violation, blamed_range, blamed_store, read_at}
+use Rattle.spec_history.specs.Conflict.{Meeting, is_changed, is_shared, line_count, line_has, line_number, meeting, what_at}
 use Rattle.conflict_findings.specs.declared.run.Run.{Run}
 
 -- ---- runs
@@ -62,13 +62,12 @@ shared_run image entries blame v a =
 -- the victim has read a byte of the line and the cause writes one, but no byte is both
 abbrev pub is_falsely_shared : LoadedImage → Meeting → ℕ → Bool
 is_falsely_shared image m line =
-    line_has image line (λ a. is_some (m.reads a)) && (is_some (written_in image m line) && not (line_has image line (is_shared m)))
+    line_has image line (λ a. is_some (m.reads a)) && (line_has image line (λ a. is_some (m.writes a)) && not (line_has image line (is_shared m)))
 
 -- the lowest byte of a line that the load at a place read from outside, of the attempt that a core runs before another place
 abbrev pub byte_in : LoadedImage → List Entry → ℕ → ℕ → ℕ → ℕ → Option ℕ
 byte_in image entries core before line load =
-    let long = image.machine.line_length in
-    option_map (λ x. line * long + x) (first_below long (λ x. reads_outside entries core before (line * long + x) load))
+    first_below image.size (λ a. (line_number image a == line) && reads_outside entries core before a load)
 
 -- the first load of the attempt that read one
 abbrev pub load_in : LoadedImage → List Entry → ℕ → ℕ → ℕ → Option ℕ
@@ -107,7 +106,7 @@ violation_of s e cause what kind = record {
 abbrev pub runs_by : LoadedImage → FlatState → List Entry → Explanation → Option ℕ → Option What → List Run
 runs_by image s entries e (Some cause) (Some what) =
     runs_below image.size (shared_run image entries e.blame (violation_of s e cause what SilentStore))
-    ++ runs_below (image.size / image.machine.line_length) (line_run image entries e.blame (violation_of s e cause what FalseSharing))
+    ++ runs_below (line_count image) (line_run image entries e.blame (violation_of s e cause what FalseSharing))
 runs_by image s entries e cause what = []
 
 -- the further runs of a violation, in the state before it
@@ -130,6 +129,16 @@ pub record AreRead (size : ℕ) (reads : ℕ → Option ℕ) (addresses : List �
   pub ordered : IsSorted nat_cmp addresses
   pub within : (place : ℕ) → place < length addresses → slice_index addresses place < size
   pub each : (a byte : ℕ) → reads a ≡ Some byte → IsAmong a addresses
+
+-- these are the lines in which bytes of memory were read, ascending
+pub record AreLinesRead (image : LoadedImage) (reads : ℕ → Option ℕ) (lines : List ℕ) : Type 0 where
+  pub ordered : IsSorted nat_cmp lines
+  pub within : (place : ℕ) → place < length lines → slice_index lines place < line_count image
+  pub each : (a byte : ℕ) → reads a ≡ Some byte → IsAmong (line_number image a) lines
+
+-- the first load of the attempt that read a byte from outside, if the byte lies in the line
+abbrev pub read_in : LoadedImage → List Entry → ℕ → ℕ → ℕ → ℕ → Option ℕ
+read_in image entries core before line a = if line_number image a == line then first_read entries core before a else None
 
 -- the earlier of two loads, the one that is known before the other, each with the byte that it read first
 abbrev pub earlier : Option (ℕ × ℕ) → Option ℕ → ℕ → Option (ℕ × ℕ)

@@ -1,13 +1,15 @@
 //! What is found of a violation: all that is told and summed of it.
 
-ghost use Rattle.std.specs.Prelude.{◌≡◌, ◌<◌, ◌*◌, ◌^◌, IfOk, IfSome, map, option_map};
+ghost use Rattle.std.specs.Prelude.{◌≡◌, IfOk, map, option_map};
 ghost use Rattle.spec_history.specs.Conflict as conflict;
 ghost use Rattle.conflict_findings.specs.Findings as spec;
 ghost use Rattle.conflict_findings.specs.Followed.{IsFollowedTo};
 
 use crate::followed::Followed;
 use crate::run::Run;
-use conflicts::{ByteRange, Explanation, Kind, Runner, Site, accessed_line, line_number};
+use conflicts::{
+    ByteRange, Explanation, Kind, Runner, Site, accessed_bytes, accessed_line, line_number,
+};
 use rv32_exec::Image;
 use spec_history::{Entry, What};
 use std::alloc::{AllocError, Global};
@@ -50,9 +52,10 @@ pub struct Finding {
     pub victim_access: Option<Access>,
     /// The causer's access: the store that is blamed. For a full buffer: the access that asked for the line.
     pub causer_access: Option<Access>,
-    /// The number of the line of the caches in which they met, if it is known: its address over the length of a line.
+    /// The number of the line of the caches in which they met, if it is known: the place of a byte of it over the length of a line.
     pub line: Option<u32>,
-    /// The bytes at which they met, if these are known; for a full buffer the line that was asked for.
+    /// The bytes at which they met, if these are known; for a full buffer those of the line that was asked for. A line of bytes that lie
+    /// apart has the bytes of a piece.
     pub bytes: Option<ByteRange>,
     /// The blamed store stands before the blamed load.
     pub stale: bool,
@@ -209,8 +212,7 @@ fn victim_place(image: &Image, entries: &[Entry], e: &Explanation) -> Option<usi
 
 /// The line that was asked for of a full buffer.
 fn asked_line(image: &Image, entries: &[Entry], e: &Explanation) -> Option<u32>
-    ensures line { result ≡ spec.asked_line image.now entries.now e.now }
-    ensures first { IfSome result (λ line. line * image.now.machine.line_length < 2 ^ 32) }
+    ensures { result ≡ spec.asked_line image.now entries.now e.now }
 {
     accessed_line(image, what_at(entries, asked_at(e))?)
 }
@@ -225,24 +227,11 @@ fn met_line(image: &Image, entries: &[Entry], e: &Explanation) -> Option<u32>
     }
 }
 
-/// The bytes of the line of the caches that has this number.
-fn bytes_of_line(image: &Image, line: u32) -> ByteRange
-    requires { line * image.now.machine.line_length < 2 ^ 32 }
-    ensures { result ≡ spec.bytes_of_line image.now line }
-{
-    let length = image.machine().line_length;
-    ByteRange {
-        first: line * length,
-        length,
-    }
-}
-
-/// The bytes of the line that was asked for of a full buffer.
+/// Where the bytes of the line are that was asked for of a full buffer.
 fn asked_bytes(image: &Image, entries: &[Entry], e: &Explanation) -> Option<ByteRange>
     ensures { result ≡ spec.asked_bytes image.now entries.now e.now }
 {
-    let line = asked_line(image, entries, e)?;
-    Some(bytes_of_line(image, line))
+    accessed_bytes(image, what_at(entries, asked_at(e))?)
 }
 
 /// The bytes around the blamed one, or those of the line that was asked for of a full buffer.

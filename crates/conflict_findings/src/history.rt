@@ -1,6 +1,6 @@
 //! The further runs of a violation of a history.
 
-ghost use Rattle.std.specs.Prelude.{◌≡◌, IfOk, OnOk, Some, ◌++◌};
+ghost use Rattle.std.specs.Prelude.{◌≡◌, ℕ, IfOk, OnOk, Option, Some, ◌++◌};
 ghost use Rattle.spec_history.specs.View.{state_in};
 ghost use Rattle.spec_history.specs.Conflict as conflict;
 ghost use Rattle.conflicts.specs.Behind.{IsBehind};
@@ -9,7 +9,7 @@ ghost use Rattle.conflict_findings.specs.Runs as spec;
 
 use crate::finding::{FurtherRun, what_at, with_instructions};
 use crate::run::{Run, Told};
-use conflicts::{Behind, Explanation, Kind, Parties, Site, Violated};
+use conflicts::{Behind, Explanation, Kind, Parties, Site, Violated, line_number};
 use rv32_exec::Image;
 use spec_history::{Entry, Flat};
 use std::alloc::{AllocError, Global};
@@ -18,7 +18,7 @@ use std::alloc::{AllocError, Global};
 /// its sites, what is known of attempts, and the explanation.
 ///
 /// First those of bytes that the cause writes and the victim had read, by their addresses; then one for each line of which both
-/// have a byte but share none, by their addresses. The blamed run is left out.
+/// have a byte but share none, by their numbers. The blamed run is left out.
 pub fn further_runs(
     alloc: Global,
     image: &Image,
@@ -64,6 +64,19 @@ fn in_order(alloc: Global, flat: &Flat, core: u32) -> Result<Vec<u32>, AllocErro
     Ok(read)
 }
 
+/// The numbers of the lines in which these bytes lie, ascending.
+fn lines_in_order(alloc: Global, image: &Image, read: &[u32]) -> Result<Vec<u32>, AllocError>
+    ensures { IfOk result (λ lines. (reads : ℕ → Option ℕ) → spec.AreRead image.now.size reads read.now
+        → spec.AreLinesRead image.now reads lines.items) }
+{
+    let mut lines = Vec::new(alloc);
+    for addr in read {
+        lines.push(line_number(image, *addr))?;
+    }
+    lines.sort_unstable();
+    Ok(lines)
+}
+
 /// The same, at the end of a list.
 fn push_runs(
     alloc: Global,
@@ -99,6 +112,7 @@ fn push_runs(
         blame: e.blame,
     };
     shared.push_shared(runs, image, flat, entries, behind, read.as_slice())?;
-    let lines = shared.beside();
-    lines.push_lines(runs, image, flat, entries, behind, read.as_slice())
+    let lines = lines_in_order(alloc, image, read.as_slice())?;
+    let told = shared.beside();
+    told.push_lines(runs, image, flat, entries, behind, lines.as_slice())
 }

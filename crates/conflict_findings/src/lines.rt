@@ -1,6 +1,6 @@
 //! The runs of lines of which the cause writes a byte and the victim had read one, but none is both.
 
-ghost use Rattle.std.specs.Prelude.{◌≡◌, ◌<◌, ◌+◌, ◌*◌, ◌/◌, ◌^◌, ◌++◌, is_some, IfNone, IfSome, OnOk, None, Some};
+ghost use Rattle.std.specs.Prelude.{◌≡◌, ◌<◌, ◌++◌, IfNone, IfSome, OnOk, None, Some};
 ghost use Rattle.conflicts.specs.Behind.{IsBehind};
 ghost use Rattle.spec_history.specs.Conflict as conflict;
 ghost use Rattle.conflicts.specs.Parties.{meeting_in};
@@ -8,55 +8,21 @@ ghost use Rattle.conflicts.specs.Violated.{violation_in};
 ghost use Rattle.conflict_findings.specs.Runs as spec;
 
 use crate::run::{Run, Told, keep};
-use conflicts::{Behind, Violated, line_number};
+use conflicts::{Behind, LineTest, Violated, line_bytes, line_number};
 use rv32_exec::Image;
 use spec_history::{Entry, Flat};
 use std::alloc::AllocError;
 
 impl Told {
-    /// The victim has read a byte of the line.
-    fn has_read(&self, image: &Image, flat: &Flat, line: u32) -> bool
-        requires { line * image.now.machine.line_length + image.now.machine.line_length < 2 ^ 32 }
-        ensures { result ≡ conflict.line_has image.now line (λ a. is_some ((meeting_in flat.now self.now.violated.parties).reads a)) }
-    {
-        let long = image.machine().line_length;
-        for x in 0..long {
-            if flat
-                .outside(self.violated.parties.victim, line * long + x)
-                .is_some()
-            {
-                return true;
-            }
-        }
-        false
-    }
-
-    /// The cause writes a byte of the line that the victim has read.
-    fn has_shared(&self, image: &Image, flat: &Flat, line: u32) -> bool
-        requires { line * image.now.machine.line_length + image.now.machine.line_length < 2 ^ 32 }
-        ensures { result ≡ conflict.line_has image.now line (conflict.is_shared (meeting_in flat.now self.now.violated.parties)) }
-    {
-        let long = image.machine().line_length;
-        for x in 0..long {
-            if self.violated.parties.is_shared(flat, line * long + x) {
-                return true;
-            }
-        }
-        false
-    }
-
     /// The line is falsely shared.
     fn is_falsely_shared(&self, image: &Image, flat: &Flat, line: u32) -> bool
-        requires { line * image.now.machine.line_length + image.now.machine.line_length < 2 ^ 32 }
+        requires { line < conflict.line_count image.now }
         ensures { result ≡ spec.is_falsely_shared image.now (meeting_in flat.now self.now.violated.parties) line }
     {
-        self.has_read(image, flat, line)
-            && self
-                .violated
-                .parties
-                .written_in(image, flat, line)
-                .is_some()
-            && !self.has_shared(image, flat, line)
+        let parties = self.violated.parties;
+        parties.line_has(image, flat, LineTest::Read, line)
+            && parties.line_has(image, flat, LineTest::Written, line)
+            && !parties.line_has(image, flat, LineTest::Met, line)
     }
 
     /// The run that the first load of the line read.
@@ -70,7 +36,7 @@ impl Told {
     ) -> Option<Run>
         requires image { flat.now.image ≡ image.now }
         requires known { IsBehind image.now.size entries.now behind.now }
-        requires within { line < image.now.size / image.now.machine.line_length }
+        requires within { line < conflict.line_count image.now }
         ensures { result ≡ spec.run_in image.now entries.now (violation_in flat.now self.now.violated) line }
     {
         let Violated { parties, place, .. } = self.violated;
@@ -89,8 +55,7 @@ impl Told {
     ) -> Option<Run>
         requires image { flat.now.image ≡ image.now }
         requires known { IsBehind image.now.size entries.now behind.now }
-        requires within { line < image.now.size / image.now.machine.line_length }
-        requires room { line * image.now.machine.line_length + image.now.machine.line_length < 2 ^ 32 }
+        requires within { line < conflict.line_count image.now }
         ensures { result ≡ spec.line_run image.now entries.now self.now.blame (violation_in flat.now self.now.violated) line }
     {
         if !self.is_falsely_shared(image, flat, line) {
@@ -104,7 +69,7 @@ impl Told {
         }
     }
 
-    /// The further runs of lines, in ascending order, at the end of a list. It takes the bytes that the victim has read, in that order.
+    /// The further runs of lines, in ascending order, at the end of a list. It takes the lines that the victim has read of, in that order.
     pub(crate) fn push_lines(
         &self,
         runs: &mut Vec<Run>,
@@ -112,21 +77,20 @@ impl Told {
         flat: &Flat,
         entries: &[Entry],
         behind: &Behind,
-        read: &[u32],
+        lines: &[u32],
     ) -> Result<(), AllocError>
         requires image { flat.now.image ≡ image.now }
         requires known { IsBehind image.now.size entries.now behind.now }
-        requires read { spec.AreRead image.now.size (meeting_in flat.now self.now.violated.parties).reads read.now }
+        requires lines { spec.AreLinesRead image.now (meeting_in flat.now self.now.violated.parties).reads lines.now }
         ensures { OnOk result (runs.new.items ≡ runs.old.items
-            ++ spec.runs_below (image.now.size / image.now.machine.line_length)
+            ++ spec.runs_below (conflict.line_count image.now)
             (spec.line_run image.now entries.now self.now.blame (violation_in flat.now self.now.violated))) }
     {
         let mut from = 0;
-        for addr in read {
-            let line = line_number(image, *addr);
-            if line >= from {
-                keep(runs, self.line_run(image, flat, entries, behind, line))?;
-                from = line + 1;
+        for line in lines {
+            if *line as u64 >= from {
+                keep(runs, self.line_run(image, flat, entries, behind, *line))?;
+                from = *line as u64 + 1;
             }
         }
         Ok(())
@@ -150,6 +114,27 @@ fn earlier(known: Option<(usize, u32)>, load: Option<usize>, addr: u32) -> Optio
     }
 }
 
+/// The first load that read a byte from outside, of the attempt that a core runs before a place, if the byte lies in a line.
+fn read_in(
+    image: &Image,
+    entries: &[Entry],
+    behind: &Behind,
+    core: u32,
+    before: usize,
+    line: u32,
+    addr: u32,
+) -> Option<usize>
+    requires known { IsBehind image.now.size entries.now behind.now }
+    requires within { addr < image.now.size }
+    ensures { result ≡ spec.read_in image.now entries.now core before line addr }
+{
+    if line_number(image, addr) == line {
+        behind.first_read(entries, core, before, addr)
+    } else {
+        None
+    }
+}
+
 /// The first load that read a byte of a line from outside, of the attempt that a core runs before a place, and the lowest byte of the line that
 /// it read.
 fn first_in(
@@ -161,17 +146,17 @@ fn first_in(
     line: u32,
 ) -> Option<(usize, u32)>
     requires known { IsBehind image.now.size entries.now behind.now }
-    requires within { line < image.now.size / image.now.machine.line_length }
+    requires within { line < conflict.line_count image.now }
     ensures none { IfNone result (spec.load_in image.now entries.now core before line ≡ None) }
     ensures some { IfSome result (λ found. (spec.load_in image.now entries.now core before line ≡ Some found.0)
         × (spec.byte_in image.now entries.now core before line found.0 ≡ Some found.1)) }
     ensures within { IfSome result (λ found. found.1 < image.now.size) }
 {
-    let long = image.machine().line_length;
+    let bytes = line_bytes(image, line);
     let mut first = None;
-    for x in 0..long {
-        let addr = line * long + x;
-        first = earlier(first, behind.first_read(entries, core, before, addr), addr);
+    for addr in bytes.first..bytes.first + bytes.length {
+        let load = read_in(image, entries, behind, core, before, line, addr);
+        first = earlier(first, load, addr);
     }
     first
 }

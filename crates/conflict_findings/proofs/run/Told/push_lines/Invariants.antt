@@ -1,13 +1,13 @@
-use Rattle.std.proofs.Common.{◌≡◌, ◌<◌, ◌≤◌, ◌/◌, ◌++◌, ℕ, slice_index}
-use Rattle.spec_history.specs.Conflict.{line_number}
+use Rattle.std.proofs.Common.{◌≡◌, ◌<◌, ◌≤◌, ◌++◌, ℕ, slice_index}
+use Rattle.spec_history.specs.Conflict.{line_count}
 use Rattle.conflicts.specs.Violated.{violation_in}
 use Rattle.conflict_findings.specs.Runs.{line_run, runs_below}
 use Rattle.conflict_findings.proofs.run.Told.push_lines.Given as goal
 
 -- those below are told
-abbrev pub invariant-loop-addr : goal.invariant-loop-addr
-invariant-loop-addr l = record {
-  within : l.from ≤ l.image.size / l.image.machine.line_length;
+abbrev pub invariant-loop-line : goal.invariant-loop-line
+invariant-loop-line l = record {
+  within : l.from ≤ line_count l.image;
   told : l.runs.items ≡ l.initial.runs.items ++ runs_below l.from (line_run l.image l.entries l.self.blame (violation_in l.flat l.self.violated));
-  passed : (k : ℕ) → k < l.addr-index → line_number l.image (slice_index l.read k) < l.from;
+  passed : (k : ℕ) → k < l.line-index → slice_index l.lines k < l.from;
 }

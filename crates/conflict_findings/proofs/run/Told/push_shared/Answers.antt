@@ -39,7 +39,7 @@ loop-addr-preserved c =
           let none : (j : ℕ) → from ≤ j → j < found → runs j ≡ None = λ j after before. either_way (is_shared m j) (runs j ≡ None)
           (λ shared.
           let at = shared_listed m addresses j c.requires.read.each shared in
-          absurd (not_between c.args.image.now.size m.reads addresses index from j at.0 c.requires.read inside was.passed after before at.1 at.2))
+          absurd (not_between addresses index from j at.0 c.requires.read.ordered inside was.passed after before at.1 at.2))
           (λ isnt. unshared c.args.image.now c.args.entries.now c.args.self.now.blame v j isnt) in record {
             within = rw w.from-is next.1;
             told = rw (w.runs-is, w.from-is)
