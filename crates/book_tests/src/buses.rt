@@ -434,6 +434,7 @@ fn machine_of(second: bool) -> Machine {
         sets: 4,
         ways: 2,
         buffer_lines: if second { 8 } else { 4 },
+        apart: None,
     }
 }
 
@@ -563,6 +564,7 @@ pub fn machine_in(words: &str) -> Machine {
         sets: number(words, 1),
         ways: number(words, 2),
         buffer_lines: number(words, 3),
+        apart: None,
     }
 }
 

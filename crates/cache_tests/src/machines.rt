@@ -13,6 +13,7 @@ pub fn machine_of(words: &str) -> Machine {
         sets: number(words, 1),
         ways: number(words, 2),
         buffer_lines: number(words, 3),
+        apart: None,
     }
 }
 
