@@ -184,6 +184,15 @@ pub returns : goal.returns
 returns c = c.one_after.ensures ∙ ap (λ k. 1 + k) c.one_after-first.ensures
 """
 PROOF = "proofs/next_but_one/Answers.antt"
+# The lines of an edit that make a proof file of a function that has none.
+OWN_ANSWERS = [
+    "file: proofs/two_after/Answers.antt",
+    "new: use Rattle.std.proofs.Common.{arith}",
+    "new: use Rattle.steps.proofs.two_after.Goals as goal",
+    "new: ",
+    "new: pub returns : goal.returns",
+    "new: returns c = omega arith",
+]
 LONG_NAME = "number_that_comes_two_steps_after_another_number"
 LONG_STEP = "number_that_comes_one_step_after_it"
 # Where a step has another name, `two-steps` names one that isn't there, and `returns` depends on it, "which was
@@ -237,6 +246,12 @@ EDITS: dict[str, tuple[Sequence[Pair], str]] = {
         [("    n + 1", "    (n) + 1"), ("    next_but_one(after)", "    next(after)"), ("    (n) + 1", "    n + 1")],
         "refused: "),
     "two_after_has_the_text_that_next_is_given": ([("    n + 2", "    n + 3")], "refused: "),
+    "two_after_is_four_by_answers_of_its_own": ([*OWN_ANSWERS, ("    n + 2", "    n + 4")],
+                                                "refused: ./proofs/two_after"),
+    "two_after_is_right_by_answers_of_its_own": ([*OWN_ANSWERS, ("    n + 2", "    1 + n + 1")],
+                                                 "FAILED, NOT REFUSED by a message at two_after: proved"),
+    "two_after_with_a_line_that_takes_no_place": (["file: src/lib.rs", "new: // two more", ("    n + 2", "    n + 5")],
+                                                  "FAILED, BAD EDIT: a line 'new:' stands before any"),
     "four_after_is_five_after": ([("    next(three_after(n))", "    next(three_after(n)) + 1")], "refused: "),
     "four_after_over_one_that_is_not_proved_changes_a_comment": (
         [("// by three", "// by 3")], "FAILED, NOT REFUSED by a message at four_after: proved"),
@@ -257,6 +272,15 @@ EDITS: dict[str, tuple[Sequence[Pair], str]] = {
 }
 
 
+# What has to be told of the right body of each edit that brings answers.
+RIGHT = {
+    "next_but_one_renames_a_step_in_its_answers_too": "FAILED, NOT PROVED with its answers: ./proofs/next_but_one",
+    "next_but_one_is_wrong_with_answers_that_fit": "FAILED, NOT PROVED with its answers: ./proofs/next_but_one",
+    "next_but_one_with_the_answers_of_another": "FAILED, BAD EDIT: it changes a proof of a function that it doesn't",
+    "two_after_is_four_by_answers_of_its_own": "proved with its answers",
+    "two_after_is_right_by_answers_of_its_own": "proved with its answers",
+}
+
 # Two terms at the one place at which an answer doesn't fit, and whether they are other values for sure.
 TERMS = [
     ("1", "2", True),
@@ -268,6 +292,8 @@ TERMS = [
     ("c.args.n", "c.next.result", False),
     ("c.args.n", "(Prim.Native.Nat.◌/◌ c.args.n 2)", True),
     ("c.args.n", "(Prim.Native.Nat.◌/◌ c.args.n 1)", False),
+    ("c.args.n", "Prim.Native.Nat.◌/◌ c.args.n 2", True),
+    ("c.args.n", "Prim.Native.Nat.◌/◌ c.args.n 1", False),
     ("(c.next.result + 1)", "c.next.result", True),
     ("(c.next.result + 1 - 1)", "c.next.result", False),
     ("(c.next.result + 0)", "c.next.result", False),
@@ -443,6 +469,16 @@ def left(top: Path, path: str, *words: str) -> str:
     return told(top, path, "--left", *words, "over")[1][-1]
 
 
+def right_bodies(top: Path, path: str) -> Iterator[tuple[str, str, str]]:
+    """What is told of right bodies with the answers of edits, with what has to be told, and which of them are kept."""
+    said, lines, status = told(top, path, "--right", "steps")
+    for name in sorted(said.keys() | RIGHT.keys()):
+        yield f"{name}, the right body", said.get(name, "nothing"), RIGHT.get(name, "no line")
+    yield "the last line of right bodies", lines[-1], "2 proved, 3 failed"
+    yield "the status of right bodies", str(status), "1"
+    yield "right bodies that are kept", told(top, path, "--right", "--left", "steps")[1][-1], "2 to be tried, 2 kept"
+
+
 def of_a_small_crate(folder: Path) -> Iterator[Check]:
     """What is told of each edit of a small crate, and what is kept."""
     top = folder / "repository"
@@ -457,7 +493,8 @@ def of_a_small_crate(folder: Path) -> Iterator[Check]:
             *((name, said.get(name, "nothing"), wanted) for name, wanted in told_of.items()),
             ("the last line", lines[-1], f"{counts[0]} refused, {counts[1]} failed"),
             ("the third line from the end", lines[-3:][0], f"{counts[2]} misfits"), ("the status", str(status), "1"),
-            ("what is kept of these", noted.partition(", ")[2], f"{all_kept} kept"), *keeping(top, folder, path)]:
+            ("what is kept of these", noted.partition(", ")[2], f"{all_kept} kept"), *right_bodies(top, path),
+            *keeping(top, folder, path)]:
         yield name, None if got.startswith(wanted) else f"got {got!r}, wanted {wanted!r}"
 
 

@@ -98,6 +98,7 @@ def check(kit: Kit, crates: Crates, name: str, texts: Texts, functions: set[str]
         for pair in twins:
             copy_proofs(room, pair.twin, pair.of)
         for path, text in texts.items():
+            os.makedirs(os.path.dirname(f"{room}/{path}"), exist_ok=True)
             with open(f"{room}/{path}", "w", encoding="utf-8") as it:
                 it.write(text)
         open_proofs(room, name, others)
@@ -205,7 +206,8 @@ def is_of_another_value(message: str) -> bool:
 def is_another(one: str, other: str) -> bool:
     """Whether two terms are other values for sure."""
     field_of_one, field_of_other = FIELD.fullmatch(one), FIELD.fullmatch(other)
-    made = MADE_OF.fullmatch(OPERATOR_FIRST.sub(r"\2 \1 \3", one))
+    written = OPERATOR_FIRST.sub(r"\2 \1 \3", one)
+    made = MADE_OF.fullmatch(written if written.startswith("(") else f"({written})")
     are_values = VALUE.fullmatch(one) and VALUE.fullmatch(other)
     are_fields = field_of_one and field_of_other and field_of_one[1] == field_of_other[1]
     return one != other and bool(are_values or are_fields or made and made[1] == other)

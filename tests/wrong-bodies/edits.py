@@ -22,7 +22,8 @@ class BadEdit(Exception):
 
 @dataclass(frozen=True)
 class Change:
-    """One pair of an edit: where the text `old` stands once in a file, `new` takes its place."""
+    """One pair of an edit: where the text `old` stands once in a file, `new` takes its place. Without an old text it is
+    a further line of a proof file, which may not be there."""
 
     file: str
     old: str
@@ -84,8 +85,8 @@ class Sources:
                 for path, it in self.functions(file, text).items() if has_body(it, text)}
 
     def text_of(self, file: str) -> str | None:
-        """The text of a file, or None."""
-        return self.texts.get(file, self.proofs.get(file))
+        """The text of a file, which is empty for a proof file that isn't there, or None."""
+        return self.texts.get(file, self.proofs.get(file, "" if is_of_proofs(file) else None))
 
     def is_in_cycle(self, path: str) -> bool:
         """Whether a function calls itself, or others that call it: it has a proof of its cycle."""
@@ -103,6 +104,11 @@ def texts_in(folder: str, part: str) -> Texts:
     return texts
 
 
+def is_of_proofs(file: str) -> bool:
+    """Whether a path is that of a proof file, which may not be there."""
+    return file.startswith("proofs/") and ".." not in file.split("/")
+
+
 def has_body(function: Function, text: str) -> bool:
     """Whether a function has a body: one of a trait may have none."""
     return text.split("\n")[function.last - 1].rstrip().endswith("}")
@@ -110,7 +116,7 @@ def has_body(function: Function, text: str) -> bool:
 
 def changes_of(text: str) -> tuple[Change, ...]:
     """The pairs of an edit's text: lines `file: PATH`, `old: TEXT`, `new: TEXT`. A line `without answers` may stand
-    beside them."""
+    beside them, and below the path of a proof file lines `new: TEXT` alone."""
     file: str | None = None
     old: str | None = None
     found: list[Change] = []
@@ -120,9 +126,9 @@ def changes_of(text: str) -> tuple[Change, ...]:
         elif line.startswith("old: "):
             old = line.removeprefix("old: ")
         elif line.startswith("new:"):
-            if not file or not old:
+            if not file or not old and not is_of_proofs(file):
                 raise BadEdit("a line 'new:' stands before any 'file:' or 'old:' line")
-            found.append(Change(file, old, line.removeprefix("new:").removeprefix(" ")))
+            found.append(Change(file, old or "", line.removeprefix("new:").removeprefix(" ")))
             old = None
     if not found:
         raise BadEdit("it has no pair of 'old:' and 'new:'")
@@ -136,9 +142,9 @@ def changed(sources: Sources, changes: Sequence[Change], texts: Texts | None = N
         text = made.get(it.file, sources.text_of(it.file))
         if text is None:
             raise BadEdit(f"there is no file {it.file}")
-        if text.count(it.old) != 1:
+        if it.old and text.count(it.old) != 1:
             raise BadEdit(f"a text of it stands in {it.file} {text.count(it.old)} times, and not once")
-        made[it.file] = text.replace(it.old, it.new)
+        made[it.file] = text.replace(it.old, it.new) if it.old else f"{text}{it.new}\n"
     return made
 
 
@@ -215,7 +221,7 @@ def read_edit(name: str, text: str, sources: Sources) -> Edit:
     for it in changes:
         before = texts.get(it.file, sources.texts.get(it.file, ""))
         texts = changed(sources, [it], texts)
-        if it.file in sources.proofs:
+        if is_of_proofs(it.file):
             continue
         line = before[: before.find(it.old)].count("\n") + 1
         found = [of for of in functions_of(before) if of.first <= line <= of.last]
@@ -226,7 +232,7 @@ def read_edit(name: str, text: str, sources: Sources) -> Edit:
         raise BadEdit("it changes nothing")
     if not functions:
         raise BadEdit("it changes no function")
-    if any(file in sources.proofs and not any(is_own_proof(file, it) for it in functions) for file in texts):
+    if any(is_of_proofs(file) and not any(is_own_proof(file, it) for it in functions) for file in texts):
         raise BadEdit("it changes a proof of a function that it doesn't change")
     return Edit(name, changes, frozenset(functions), in_bodies, WITHOUT_ANSWERS in text.split("\n"))
 
@@ -253,6 +259,22 @@ def stays_inside(change: Change, line: int, function: Function) -> bool:
     line."""
     is_behind = change.old.endswith("{") and change.new.startswith(change.old)
     return line > function.body or line == function.body and is_behind
+
+
+def answers_of(edit: Edit) -> Edit:
+    """The edit without what it changes outside of proof files."""
+    return replace(edit, changes=tuple(it for it in edit.changes if is_of_proofs(it.file)))
+
+
+def once_each(edits: Sequence[Edit]) -> tuple[list[Edit], list[Edit]]:
+    """Some of the edits, in which each function is changed once, and the others."""
+    chosen: list[Edit] = []
+    others: list[Edit] = []
+    used: set[str] = set()
+    for edit in edits:
+        (others if used & edit.functions else chosen).append(edit)
+        used |= edit.functions
+    return chosen, others
 
 
 def batches_of(edits: Sequence[Edit], sources: Sources) -> Iterator[list[Edit]]:
