@@ -12,7 +12,7 @@ with 1 where a check failed.
 import re
 import sys
 import tempfile
-from collections.abc import Iterator
+from collections.abc import Iterable, Iterator
 from functools import partial
 from pathlib import Path
 
@@ -44,6 +44,14 @@ CACHES = "The caches have 4 sets of 2 ways with lines of 16 bytes, and buffers o
 # What `gain` prints where the load at 4 waits, and what is told then.
 HELD = TWO.replace("steps 10 gain 1.20", "steps 9 gain 1.33").replace("waiting 0 idle 4", "waiting 0 held 2 idle 0")
 WAITS = " Where one load waits until its epoch is the first, it gains 1.33 at waits.c:7."
+# What `gain --held` prints below the run on two cores, and what is told then.
+ALL_HELD = HELD.replace("store", "held", 1).replace("steps 9 gain 1.33", "steps {} gain {}")
+HELD_ROWS = [("8", "1.50", "it gains 1.50."), ("13", "0.92", "it loses, a gain of 0.92."), ("10", "1.20", ""),
+             ("8", "-", "")]
+HOLDS = " Where each load waits for the earlier epochs that store to its line, "
+# What `gain --costs bus=N` prints of two cores.
+COSTED = (TWO.replace("useful 12", "order 20 busy 8 handling 4 memory 0 queue 0").format("caches")
+          .replace("steps 10", "steps $steps"))
 # What `gain --limits` prints below that on two cores, and what is told then.
 LIMITS = "limit cores 1 forward 12 commit 12\nlimit cores 2 forward {} commit {}\n"
 ALLOWED = [
@@ -54,21 +62,40 @@ ALLOWED = [
     (8, 8, " Its dependences allow 1.50 on 2 cores."),
     (9, 9, ""),         # 1.33, less than a fifth above 1.20
 ]
-# What `gain --even-at` says of two cores, and what is told then.
-EVENS = [("3", " costs 3 steps more, it takes fewer steps than the loop in order; at higher costs, up to 60, it "
-               "doesn't."),
-         ("1", " costs 1 step more, it takes fewer"),
-         ("60", " costs 60 steps more, it takes fewer steps than the loop in order, and no higher cost was tried."),
-         ("-", " costs, up to 60 steps, it takes no fewer steps than the loop in order.")]
+# Up to which cost two cores take fewer steps than in order, at which their history is full, and what is told then.
+EACH = " each miss, upgrade, begin, restart, commit and published line costs"
+EVENS: list[tuple[int, list[int], str]] = [
+    (3, [], f"{EACH} 3 steps more, it takes fewer steps than the loop in order; at higher costs, up to 60, it doesn't. "
+            "What"),
+    (1, [], f"{EACH} 1 step more, it takes fewer steps than the loop in order; at higher"),
+    (0, [], f"{EACH} 0 steps more, it takes fewer steps than the loop in order; at higher"),
+    (60, [], f"{EACH} 60 steps more, it takes fewer steps than the loop in order, and no higher cost was tried. What"),
+    (-1, [], f" Whatever{EACH}, up to 60 steps, it takes no fewer steps than the loop in order. What"),
+    (3, [40], "; at higher costs, up to 60, it doesn't, but at 40 its history is full, so that isn't known. What"),
+    (3, [60, *range(5, 25)], "it doesn't, but at 21 of these costs, between 5 and 60, its history is full, so that "
+                             "isn't known. What"),
+    (59, [60], " costs 59 steps more, it takes fewer steps than the loop in order; at higher costs, up to 60, it "
+               "doesn't, but at 60 its history is full, so that isn't known. What"),
+    (-1, [7, 8], "than the loop in order, but at 2 of these costs, between 7 and 8, its history is full, so that isn't "
+                 "known. What"),
+]
+PAYS = f" Where{EVENS[0][2].removesuffix(' What')}"
+# How many steps it takes on one core, further words, and whether costs are tried then.
+SHORT: list[tuple[str, list[str], bool]] = [
+    ("steps 20000", [], True), ("steps 20001", [], False), ("full", [], False),
+    ("steps 20001", ["--even-at"], True), ("full", ["--even-at"], True)]
+UNTRIED = (" Up to which cost of communication it gains wasn't tried, since that takes up to 61 runs and on one core "
+           "{}: --even-at asks for it. What holds")
 LARGER = " With 64 sets of 4 ways with lines of 16 bytes, and buffers of 16 lines, it gains {}"
 SAID = ("waits gains 1.20 on 2 cores at even speed: 10 steps in place of 12. Over a plain store of bytes it gains "
         f"1.20. {CACHES} Of all steps 60 % are useful, 20 % are lost and "
-        f"20 % are idle.{WAITS} What holds it back over a plain store already: 1 rollback by true sharing lost 3 "
-        "instructions. "
+        f"20 % are idle.{WAITS}{HOLDS}{HELD_ROWS[0][2]}{PAYS} What holds it back over a plain store already: 1 "
+        "rollback by true sharing lost 3 instructions. "
         "3 instructions where the store at waits.c:4 hits the "
         "load at waits.c:7 at flag: it usually helps to wait for flag, or let each epoch keep its own and put them "
         "together at the end. In 20 % of the steps cores have no "
         "epoch: the loop has 2; it usually helps to have more, or shorter ones. What helps is advice, and no claim.")
+FURTHER = f"{WAITS}{HOLDS}{HELD_ROWS[0][2]}{PAYS}"
 # The run ends in a fault of its last epoch, at the load or behind it.
 FAULTS = {
     "5 00000004": "at waits.c:7, 00000004, with cause 5, an address that is no multiple of the access's width.",
@@ -144,14 +171,17 @@ NEIGHBOURS = ("unsigned out[64] __attribute__((aligned(16)));\nvoid body(unsigne
               "        out[e] += s;\n    }\n}\n")
 # Of an example on four cores: words of its verdict.
 EXAMPLES = {"histogram": ["gains 2.28 on 4 cores", "plain store of bytes it gains 3.25",
-                          "hits the load at 00000018 at bins+4 and bins+20"],
+                          "hits the load at 00000018 at bins+4 and bins+20",
+                          f"{HOLDS}it gains 3.42.", "line costs 3 steps more, it takes fewer"],
             "own_counters": ["gains 1.08 on 4 cores", "428 steps in place of 464",
                              "plain store of bytes it gains 4.00. So the caches cost most of what there is to gain",
                              "27 % are useful, 64 % are lost and 9 % are idle",
                              "42 rollbacks by false sharing lost 1,050 instructions",
-                             "give counter, counter+4, counter+8 and counter+12 lines of 16 bytes of their own"],
+                             "give counter, counter+4, counter+8 and counter+12 lines of 16 bytes of their own",
+                             f"{HOLDS}it gains 1.29."],
             "padded_counters": ["gains 4.00 on 4 cores", "Nothing holds it back."],
-            "list_walk": ["loses on 4 cores at even speed, a gain of 0.99", "18 rollbacks by true sharing lost"],
+            "list_walk": ["loses on 4 cores at even speed, a gain of 0.99", "18 rollbacks by true sharing lost",
+                          f"{HOLDS}it gains 1.00."],
             "queens": ["gains 1.39 on 4 cores", "wait for a way in a full set"]}
 
 # What is told besides where `depends` is built.
@@ -183,13 +213,46 @@ def verdict(folder: Path | str, image: Path, *words: str | Path) -> tuple[str, s
     return " ".join(done.stdout.split()), done.stderr, done.returncode
 
 
-def stub_gain(folder: Path | str, output: str, held: str = ONE + HELD) -> None:
-    """A `gain` that prints one of these, the second where it is asked for the load at 4 alone, over caches, to wait."""
+def stub_gain(folder: Path | str, output: str, waiting: str = ONE + HELD, held: str | None = None,
+              at: int = 3, full: Iterable[int] = ()) -> None:
+    """A `gain` that prints one of these: of the load at 4 alone, over caches, that waits; of each load that waits; and
+    where actions cost something, that it takes fewer steps than in order up to such a cost, with full histories at
+    others."""
+    held = (ONE + ALL_HELD).format("caches", "caches", *HELD_ROWS[0][:2]) if held is None else held
     path = Path(folder, "gain")
-    path.write_text("#!/bin/sh\ncat >/dev/null\n[ \"$*\" != '2 caches --wait 00000004' ] || { cat <<'END'\n"
-                    f"{held.format('caches', 'caches')}END\nexit 0; }}\ncase \"$*\" in *--wait*) exit 9 ;; esac\n"
-                    f"cat <<'END'\n{output}END\n")
+    path.write_text(
+        "#!/bin/sh\ncat >/dev/null\ncost=${*##*=}\ncase \"$*\" in\n"
+        f"'2 caches --wait 00000004') cat <<'END'\n{waiting.format('caches', 'caches')}END\n;;\n"
+        f"'2 caches --held') cat <<'END'\n{held}END\n;;\n'2 caches --costs bus='*)\n"
+        f"case ' {' '.join(map(str, full))} ' in *\" $cost \"*) echo store caches cores 2 full; exit 0 ;; esac\n"
+        f"if [ \"$cost\" -le {at} ]; then steps=19; else steps=20; fi\necho \"{COSTED.rstrip()}\" ;;\n"
+        f"*--wait*|*--held*|*--costs*|*--even-at*) exit 9 ;;\n*) cat <<'END'\n{output}END\nesac\n")
     path.chmod(0o755)
+
+
+def tries(folder: Path | str, image: Path) -> Results:
+    """What it gains where each load waits, and up to which cost of communication."""
+    for steps, gain, said in HELD_ROWS:
+        stub_gain(folder, GAIN, held=(ONE + ALL_HELD).format("caches", "caches", steps, gain))
+        got = verdict(folder, image, "--cores", "2")
+        told = SAID.replace(f"{HOLDS}{HELD_ROWS[0][2]}", f"{HOLDS}{said}" if said else "")
+        yield f"each load waits: {steps} steps, a gain of {gain}", differs(got, (told, "", 0))
+    stub_gain(folder, GAIN, held="held caches cores 1 full\nheld caches cores 2 full\n")
+    got = verdict(folder, image, "--cores", "2")
+    yield ("full where each load waits",
+           differs(got, (SAID.replace(HELD_ROWS[0][2], "its history is full."), "", 0)))
+    for at, full, said in EVENS:
+        stub_gain(folder, GAIN, at=at, full=full)
+        got = verdict(folder, image, "--cores", "2")
+        yield f"costs up to {at}, full at {full}", None if said in got[0] and got[1:] == ("", 0) else f"got {got}"
+    for one, words, is_tried in SHORT:
+        line = f"store caches cores 1 {one}" + ("" if one == "full" else ONE.partition("steps 12")[2].rstrip()) + "\n"
+        stub_gain(folder, GAIN.replace(ONE.format("caches"), line).replace("gain 1.20", "gain -" if one == "full"
+                                                                           else "gain 1.20"))
+        got = verdict(folder, image, "--cores", "2", *words)
+        takes = "its history is full" if one == "full" else "it takes 20,001 steps, more than 20,000"
+        right = (PAYS in got[0], UNTRIED.format(takes) in got[0]) == (is_tried, not is_tried)
+        yield f"on one core {one}, {words}", None if right and got[1:] == ("", 0) else f"got {got}"
 
 
 def by_hand(folder: Path | str) -> Results:
@@ -217,14 +280,7 @@ def by_hand(folder: Path | str) -> Results:
         got = verdict(folder, image, "--cores", "2")
         yield (f"what its dependences allow: {forward} and {commit} steps",
                None if got == (SAID.replace(" are idle.", f" are idle.{said}"), "", 0) else f"got {got}")
-    for at, said in EVENS:
-        stub_gain(folder, GAIN)
-        asked = Path(folder, "gain").read_text().replace("case ", (
-            "[ \"$*\" != '2 caches --even-at' ] || { cat <<'END'\n" + (ONE + TWO).format("caches", "caches")
-            + f"even caches cores 1 at -\neven caches cores 2 at {at}\nEND\nexit 0; }}\ncase "), 1)
-        Path(folder, "gain").write_text(asked)
-        got = verdict(folder, image, "--cores", "2", "--even-at")
-        yield f"even at {at}", None if said in got[0] and got[1:] == ("", 0) else f"got {got}"
+    yield from tries(folder, image)
     stub_gain(folder, GAIN.replace(ONE.format("caches"), "store caches cores 1 full\n").replace("gain 1.20", "gain -")
               + LIMITS.format(8, 10))
     got = verdict(folder, image, "--cores", "2", "--min-gain", "1.5")
@@ -282,15 +338,19 @@ BY_SETS = [
 
 
 def gain_by_sets(folder: Path | str, gains: dict[int, float]) -> None:
-    """A `gain` that is asked of machines by their sets; of others it knows nothing."""
+    """A `gain` that is asked of machines by their sets; of others it knows nothing. On one core the loop takes so many
+    steps that no costs are tried."""
+    one = ONE.replace("steps 12", "steps 20001")
     lines = {f"sets={sets},": TWO.format("$word").replace("gain 1.20", f"gain {gain:.2f}")
              for sets, gain in gains.items()}
     lines |= {"caches": TWO.format("caches").replace("gain 1.20", "gain 1.10"),
               "plain": TWO.format("plain").replace("gain 1.20", "gain 4.00")}
     cases = "".join(f"{'*' * (key[-1] == ',')}{key}{'*' * (key[-1] == ',')}) "
-                    f"echo \"{ONE.format('$word')}{line.rstrip()}\" ;;\n" for key, line in lines.items())
+                    f"store=$word; echo \"{one.format('$word')}{line.rstrip()}\" ;;\n"
+                    for key, line in lines.items())
     path = Path(folder, "gain")
-    cases += "--limits|--wait|00000004) ;;\n"
+    cases += (f"--held) echo \"{ALL_HELD.format('$store', *HELD_ROWS[0][:2]).rstrip()}\" ;;\n"
+              "--limits|--wait|00000004) ;;\n")
     path.write_text(f"#!/bin/sh\ncat >/dev/null\nshift\nfor word; do\ncase $word in\n{cases}*) exit 9 ;;\nesac\ndone\n")
     path.chmod(0o755)
 
@@ -328,7 +388,7 @@ def flows(folder: Path | str) -> Results:
     for output, said in FLOWS:
         stub(folder, "depends", output)
         got = verdict(folder, image, "--cores", "2")
-        told = said.replace(" What holds it back", f"{WAITS} What holds it back")
+        told = said.replace(" What holds it back", f"{FURTHER} What holds it back")
         yield (f"told of {output[:40]!r}",
                None if f" are idle. {told}" in got[0] and got[1:] == ("", 0) else f"got {got}")
     for code, load, distance, said in FORMS:
@@ -441,10 +501,9 @@ def examples(folder: Path | str, command: list[str]) -> Results:
         got = verdict(folder, ROOT / "examples" / f"{name}.image")
         also = FLOWING[name] if "depends" in programs else []
         missing = [words for words in [*wanted, *also] if words not in got[0]]
+        missing += [HOLDS] * ((HOLDS in got[0]) != (HOLDS in " ".join(wanted)))
         yield (f"the verdict on {name}", None if not missing and got[1:] == ("", 0)
-               else f"got {got}, which lacks {missing}")
-    got = verdict(folder, ROOT / "examples" / "histogram.image", "--even-at")
-    yield "where communication costs too much", None if "line costs 3 steps more, it takes fewer" in got[0] else got[0]
+               else f"got {got}, which lacks {missing}, or has it")
     got = verdict(folder, ROOT / "examples" / "own_counters.image", "--min-gain", "2")
     yield ("past the least gain", None if got[2] == 5 and got[0].endswith("it gains 1.08, less than 2.00.")
            else f"got {got}")

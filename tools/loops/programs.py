@@ -184,14 +184,15 @@ class Programs:
         words = why_words(store, attempts)
         return iter_conflicts(iter_call(self.why_command or self.folder / "why", words, source, (0,)))
 
-    def gain(self, image: Image | str, cores: int, *stores: str, limits: bool = False,
-             waits: Sequence[int] = (), evens: bool = False) -> Gains:
+    def gain(self, image: Image | str, cores: int, *stores: str, held: bool = False, waits: Sequence[int] = (),
+             limits: bool = False, costs: str | None = None, evens: bool = False) -> Gains:
         """What the loop gains on up to so many cores over these stores; without any over `caches` and `plain`. With
-        `limits` also what its dependences allow. The loads at the addresses of `waits` wait until their epoch is the
-        first. With `evens` also up to which cost of each action it gains."""
-        words = [str(cores), *stores, *["--limits"] * limits]
+        `held` also what it gains where each load waits for what earlier epochs store in order. The loads at the
+        addresses of `waits` wait until their epoch is the first. With `limits` also what its dependences allow. Turns
+        cost what `costs` says, as `bus=10`. With `evens` also up to which cost of each action it gains."""
+        words = [str(cores), *stores, *["--held"] * held]
         words += ["--wait", *(f"{pc:08x}" for pc in waits)] if waits else []
-        words += ["--even-at"] * evens
+        words += ["--limits"] * limits + ([] if costs is None else ["--costs", costs]) + ["--even-at"] * evens
         return read_gains(call(self.folder / "gain", words, text_of(image)))
 
     def has_depends(self) -> bool:

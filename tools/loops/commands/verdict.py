@@ -9,9 +9,10 @@ What it gains is what `gain` says, of one instruction a step on each core and no
 waiting for the caches may hide what epochs need of one another. STORE is the caches that it speaks of, those of the
 image's version where it isn't said. Where large caches gain something else it says so, and where the plain store gains
 and they don't, which are the first to gain as much. Where its dependences allow a fifth more than it gains it says so.
-Where it loses steps, it says what it gains where one of the loads that lost most waits until its epoch is the first.
-With --even-at it says up to which cost of communication it takes fewer steps than the loop in order, which takes `gain`
-up to 61 runs.
+Where it loses steps, it says what it gains where one of the loads that lost most waits until its epoch is the first;
+and where that is something else, what it gains where each load waits for the earlier epochs that store to its line. It
+says up to which cost of communication it takes fewer steps than the loop in order. For that `gain` is called up to 61
+times: unasked of loops that take up to 20,000 steps on one core, else with --even-at.
 Where `depends` is built it says whether anything can roll back at all, on any schedule, and what an epoch needs
 earliest of another. Where neighbours of an array share lines it proposes --chunk of the tool that made the image,
 tools/image-of or tools/loops-of; the words behind `--` are those by which it did, and with them it measures what that
@@ -25,117 +26,74 @@ import argparse
 import subprocess
 import sys
 import textwrap
-from dataclasses import dataclass
 from pathlib import Path
 
 from loops.endings import tool
-from loops import Image, Programs, Report, Stopped, Unreadable, read_image
-from loops.gains import Gain
+from loops import Programs, Stopped, Unreadable, read_image
 from loops.images import there
 from loops.programs import add_build
-from loops.runs import read_report
 from loops.start import words_of
-from loops.stores import Machine, Store, add_store
+from loops.stores import Store, add_store
 from loops.texts import shown, text_in
-from loops.verdicts.chunks import Measured, maker_of, proposal
-from loops.verdicts.losses import Losses
-from loops.verdicts.sizes import Sized, Sizes, enough, larger_than
-from loops.verdicts.waits import Waited, waited
-from loops.verdicts.words import LEAST, Findings, caches_cost, faulted, paragraph, past, percent
+from loops.verdicts.asked import FULL, Asked
+from loops.verdicts.chunks import Chunk, Measured, maker_of, proposal
+from loops.verdicts.costs import SHORT, is_short
+from loops.verdicts.sizes import Sized, larger_than
+from loops.verdicts.words import Findings, faulted, paragraph, past
 from loops.version import add_version
 
 PAST, FAULT = 5, 6
 COLUMNS = 100
-# What `replay` says where a history is longer than a trace may be
-FULL = "stopped HistoryFull\n"
 
 
-@dataclass
-class Ran:
-    """A run at even speed: how it ended, and what it lost."""
-    report: Report
-    losses: Losses
-
-
-def ran(programs: Programs, text: str, image: Image, store: Store, cores: int) -> Ran:
-    """The run over a store, and why it was rolled back. Its trace is long, so no more of it is read than is asked
-    for."""
-    above, head, below = programs.even_text(text, store.word, cores).partition("\ntrace ")
-    kept = [line for line in above.split("\n") if not line.startswith(("turns ", "counts "))]
-    trace = head[1:] + below
-    violations = programs.why(text.removesuffix("\n") + "\n" + trace, store.word).violations
-    return Ran(read_report("\n".join(kept)), Losses(image, violations, trace.split("\n")[1:-1], store))
-
-
-def losses_of(programs: Programs, text: str, image: Image, store: Store, cores: int) -> Losses | None:
-    """What the run over a store lost; None where its history is longer than a trace may be, and `gain` alone counts
-    it."""
-    try:
-        return ran(programs, text, image, store, cores).losses
-    except Stopped as stopped:
-        if stopped.line != FULL:
-            raise
-        return None
-
-
-def measured(programs: Programs, maker: str, words: list[str], size: int, store: Store, cores: int) -> Measured:
+def measured(asked: Asked, words: list[str], chunk: Chunk) -> Measured:
     """What the loop gains when the tool that made it makes it with so many iterations an epoch."""
-    done = subprocess.run([*words_of(f"commands.{maker.replace('-', '_')}"), "--chunk", str(size), *words],
+    module = f"commands.{maker_of(asked.image).replace('-', '_')}"
+    done = subprocess.run([*words_of(module), "--chunk", str(chunk.size), *words],
                           stdin=subprocess.DEVNULL, capture_output=True, check=False)
     if done.returncode:
         raise Stopped(done.returncode, text_in(done.stderr))
-    runs = {run.cores: run for run in programs.gain(text_in(done.stdout), cores, store.word).runs}
-    return Measured(size, runs[1], runs[cores])
+    runs = {run.cores: run for run in asked.programs.gain(text_in(done.stdout), asked.cores, asked.store.word).runs}
+    return Measured(chunk.size, runs[1], runs[asked.cores])
 
 
-def sizes_of(programs: Programs, text: str, machine: Machine, large: Sized, caches: Gain, plain: Gain) -> Sizes:
-    """What the loop gains over large caches, and where the others cost most of it, which ones gain as much as the plain
-    store."""
-    def tried(one: Machine) -> Gain:
-        return there(programs.gain(text, plain.cores, one.word).of(one.word, plain.cores))
-
-    if not caches_cost(caches, plain):
-        return Sizes(large)
-    return Sizes(large, True, enough(machine, large, plain, tried))
-
-
-def waits_of(programs: Programs, text: str, store: Store, run: Gain, losses: Losses) -> list[Waited]:
-    """What the loop gains where one load waits, of those that lost most; none where little is lost."""
-    def tried(load: int) -> Gain:
-        return there(programs.gain(text, run.cores, store.word, waits=[load]).of(store.word, run.cores))
-
-    return waited(losses, tried) if percent(run.count("lost"), run) >= LEAST else []
+def asked_of(programs: Programs, given: argparse.Namespace) -> Asked:
+    """The loop of the image that is given."""
+    text = text_in(given.image.read_bytes())
+    try:
+        image = read_image(text)
+    except Unreadable:
+        programs.gain(text, given.cores)        # says what is wrong with it
+        raise
+    return Asked(programs, text, image, Store.of_word(given.store, image.version), given.cores)
 
 
 def findings(programs: Programs, given: argparse.Namespace, words: list[str]) -> Findings | str:
     """What the programs say of the loop, or what is told where it ends in a fault."""
-    text, cores = text_in(given.image.read_bytes()), given.cores
-    try:
-        image = read_image(text)
-    except Unreadable:
-        programs.gain(text, cores)          # says what is wrong with it
-        raise
-    store, plain_store = (Store.of_word(word, image.version) for word in (given.store, "plain"))
-    large = larger_than(store.machine)
-    gains = programs.gain(text, cores, store.word, *([large.word] if large else []), plain_store.word, limits=True)
+    asked = asked_of(programs, given)
+    image, store, cores, name = asked.image, asked.store, asked.cores, shown(given.image.stem)
+    plain_store, large = Store.of_word("plain", image.version), larger_than(store.machine)
+    gains = programs.gain(asked.text, cores, store.word, *([large.word] if large else []), plain_store.word,
+                          limits=True)
     one, caches, plain = (there(gains.of(*run))
                           for run in ((store.word, 1), (store.word, cores), (plain_store.word, cores)))
     if caches.full:
         raise Stopped(3, FULL)
-    over_caches = ran(programs, text, image, store, cores)
+    over_caches = asked.run(store)
     if over_caches.report.ending == "fault":
-        return faulted(shown(given.image.stem), over_caches.losses, over_caches.report)
-    over_plain = None if plain.full else losses_of(programs, text, image, plain_store, cores)
-    chunk = proposal(over_caches.losses)
-    tried = measured(programs, maker_of(image), words, chunk.size, store, cores) if chunk and words else None
-    stores = [] if store.is_usual else [store.word, plain_store.word]
-    flow = programs.depends(text, image.most_cores, *stores) if programs.has_depends() else None
-    sized = Sized(large, there(gains.of(large.word, cores))) if large else None
-    sizes = sizes_of(programs, text, store.machine, sized, caches, plain) if sized else None
-    even = programs.gain(text, cores, store.word, evens=True).even(store.word, cores) if given.even_at else None
-    return Findings(shown(given.image.stem), store, one, caches, plain, over_caches.losses, over_plain, chunk, tried,
-                    flow, sizes, gains.allowed(cores), waits_of(programs, text, store, caches, over_caches.losses),
-                    even)
+        return faulted(name, over_caches.losses, over_caches.report)
+    found = Findings(name, store, one, caches, plain, over_caches.losses,
+                     None if plain.full else asked.losses(plain_store), allowed=gains.allowed(cores))
+    found.chunk = proposal(found.over_caches)
+    found.measured = measured(asked, words, found.chunk) if found.chunk and words else None
+    if programs.has_depends():
+        found.flow = programs.depends(asked.text, image.most_cores,
+                                      *([] if store.is_usual else [store.word, plain_store.word]))
+    if large:
+        found.sizes = asked.sizes(Sized(large, there(gains.of(large.word, cores))), caches, plain)
+    found.waits, found.held = asked.waits(caches, found.over_caches), asked.held()
+    found.dearest = asked.dearest() if given.even_at or is_short(one) else None
+    return found
 
 
 def options_of(words: list[str]) -> tuple[argparse.Namespace, list[str]]:
@@ -150,7 +108,8 @@ def options_of(words: list[str]) -> tuple[argparse.Namespace, list[str]]:
                         help="the text of the loop; made with -g it names lines of the source")
     parser.add_argument("--cores", type=int, default=4, metavar="N", help="1 to 16, in version 1 of an image to 8 (4)")
     parser.add_argument("--even-at", action="store_true",
-                        help="up to which cost of each action the loop gains against the loop in order")
+                        help="up to which cost of each action the loop gains against the loop in order, also where "
+                             f"it takes more than {SHORT:,} steps on one core")
     parser.add_argument("--max-lost", type=float, metavar="PERCENT",
                         help="the status is 5 where more of the steps of all cores are lost")
     parser.add_argument("--min-gain", type=float, metavar="G", help="the status is 5 where the loop gains less")

@@ -1,15 +1,17 @@
 """The sentences of a verdict."""
 
+from collections.abc import Callable
 from dataclasses import dataclass, field
 
 from loops import Dependences, Report, Violation
-from loops.gains import Even, Gain
+from loops.gains import Gain
 from loops.images import there
 from loops.pictures.attempts import Blamed
 from loops.pictures.words import advice, listed as places_listed, plural
 from loops.stores import MOST_SETS, Store
 
 from .chunks import Chunk, Measured, maker_of
+from .costs import MOST_COST, SHORT, Dearest
 from .flow import earliest, flow
 from .losses import Losses
 from .sizes import ALIKE, Sizes, are_alike
@@ -18,8 +20,6 @@ from .waits import Waited
 MOST_PAIRS = 3
 # What dependences allow is told where it is so many times what the loop gains.
 WELL_ABOVE = 1.2
-# The highest cost of an action that `gain --even-at` tries
-MOST_COST = 60
 # A part of the steps is told as holding a loop back where it has so many hundredths of them.
 LEAST = 5
 KINDS = {"true": "true sharing", "silent": "silent stores", "false": "false sharing", "buffer": "full buffers",
@@ -51,7 +51,8 @@ class Findings:
     # what its dependences allow, where loads wait for commits, and where for stores
     allowed: tuple[float, float] | None = None
     waits: list[Waited] = field(default_factory=list)       # over these caches, a load each
-    even: Even | None = None            # over these caches, where it is asked for
+    held: Gain | None = None            # over these caches, where each load waits for what earlier epochs store
+    dearest: Dearest | None = None      # over these caches; none where no cost was tried
 
 
 def percent(part: int, run: Gain) -> float:
@@ -162,16 +163,48 @@ def wait_words(found: Findings) -> str:
     return f" Where one load waits until its epoch is the first, it gains {listed(told)}." if told else ""
 
 
-def even_words(found: Findings) -> str:
-    """Up to which cost of communication the loop takes fewer steps than in order."""
-    if found.even is None:
+def held_words(found: Findings) -> str:
+    """What the loop gains where each load waits for the earlier epochs that store to its line, where that is something
+    else."""
+    held = found.held
+    if held is None or (held.steps, held.full) == (found.caches.steps, False):
         return ""
-    at, each = found.even.at, "each miss, upgrade, begin, restart, commit and published line"
+    told = " Where each load waits for the earlier epochs that store to its line,"
+    if held.full:
+        return f"{told} its history is full."
+    gain = held.gain
+    if gain is None:
+        return ""
+    return f"{told} it gains {gain:.2f}." if gain >= 1 else f"{told} it loses, a gain of {gain:.2f}."
+
+
+def unknown_words(full: list[int]) -> str:
+    """At which costs it isn't known whether the loop gains."""
+    if not full:
+        return ""
+    where = f"{full[0]}" if len(full) == 1 else f"{len(full)} of these costs, between {full[-1]} and {full[0]},"
+    return f", but at {where} its history is full, so that isn't known"
+
+
+def dearest_words(found: Findings) -> str:
+    """Up to which cost of communication the loop takes fewer steps than in order."""
+    if found.dearest is None:
+        takes = ("its history is full" if found.one.steps is None
+                 else f"it takes {plural(found.one.steps, 'step')}, more than {SHORT:,}")
+        return (" Up to which cost of communication it gains wasn't tried, since that takes up to "
+                f"{MOST_COST + 1} runs and on one core {takes}: --even-at asks for it.")
+    at, each = found.dearest.at, "each miss, upgrade, begin, restart, commit and published line"
+    unknown = unknown_words(found.dearest.full)
     if at is None:
-        return f" Whatever {each} costs, up to {MOST_COST} steps, it takes no fewer steps than the loop in order."
+        return (f" Whatever {each} costs, up to {MOST_COST} steps, it takes no fewer steps than the loop in "
+                f"order{unknown}.")
     told = f" Where {each} costs {plural(at, 'step')} more, it takes fewer steps than the loop in order"
-    return told + (f"; at higher costs, up to {MOST_COST}, it doesn't." if at < MOST_COST
+    return told + (f"; at higher costs, up to {MOST_COST}, it doesn't{unknown}." if at < MOST_COST
                    else ", and no higher cost was tried.")
+
+
+# What is told of further runs, one behind the other: what may help, and what may cost
+FURTHER: list[Callable[[Findings], str]] = [allowed_words, wait_words, held_words, dearest_words]
 
 
 # --- What holds it back ------------------------------------------------------
@@ -295,7 +328,7 @@ def paragraph(found: Findings) -> str:
     caches = holding(found.caches, found.over_caches, before, chunk_words(found))
     head = gained(found) + ("" if found.flow is None
                             else f" {flow(found.over_caches.image, found.flow, found.caches.cores)}")
-    head += allowed_words(found) + wait_words(found) + even_words(found)
+    head += "".join(words(found) for words in FURTHER)
     if not plain and not caches:
         return f"{head} Nothing holds it back."
     told = [f"What holds it back over a plain store already: {' '.join(plain)}"] if plain else []
