@@ -24,7 +24,7 @@ from functools import wraps
 from pathlib import Path
 from xml.etree import ElementTree
 
-from common import ROOT, Check, Script, beside, called, called_well, left_out
+from common import ROOT, Check, Script, beside, called, called_well, differs, left_out, there
 from packages import has_module
 from view import driver, find_selenium
 
@@ -66,7 +66,25 @@ REFUSED = [
     ("schedules = 'even'\n" + IMAGE, "schedules: \"even\""),
     ("seeds = [" + ", ".join(map(str, range(130_000))) + "]\nschedules = ['seeded']\ncores = [1, 2, 3, 4]\n" + IMAGE,
      "1,040,000 runs, more than 1,000,000"),
+    ("costs = [" + ", ".join(f"'bus={cost}'" for cost in range(63_000)) + "]\ncores = [1, 2, 3, 4]\nheld = true\n"
+     + IMAGE, "1,008,016 runs, more than 1,000,000"),
+    ("held = 1\n" + IMAGE, "held: 1 is refused; wanted is true or false"),
+    ("costs = 'bus=1'\n" + IMAGE, "wanted is a list of costs"),
+    ("costs = [1]\n" + IMAGE, "costs[0]: 1 is refused; wanted is what turns cost"),
+    ("costs = ['bus=1', 'bus=1']\n" + IMAGE, "each once"),
+    *((f"costs = ['bus=1', '{word}']\n" + IMAGE, f"costs[1]: '{word}' says no costs; such are KEY=N,..")
+      for word in ("", "bus", "disk=1", "bus=01", "bus=-1", "bus=1000001", "bus=1,miss=1", "miss=1,miss=2", "hold=",
+                   "hold=1,hold=2", "hold=1000001", "bus=1 --hold 1", "bus=1; touch X")),
+    ("schedules = ['seeded']\nheld = true\n" + IMAGE, 'held: asked of runs at even speed, and schedules has no "even"'),
+    ("schedules = ['threads']\ncosts = ['bus=1']\n" + IMAGE, "costs: asked of runs at even speed"),
 ]
+# Where turns cost something, or loads wait: of own_counters over caches the lines of tests/costs.tsv and
+# tests/held.tsv.
+DEAR = ('cores = [1, 4]\nstores = ["caches"]\nheld = true\ncosts = ["bus=10", "bus=10,hold=10"]\ngain = 4\n[loops]\n'
+        'own_counters = "own_counters.image"\n')
+SETS = {"bus10": "bus=10", "bus10b": "bus=10,hold=10"}
+COLUMNS = "steps order busy handling memory queue lost_steps dropped_steps waiting idle restarts".split()
+PARTS = "useful_steps busy handling memory queue lost_steps dropped_steps waiting held idle".split()
 # In the place of Slurm's commands: each job runs at once, and its number is that of the process which took it.
 SLURM = {
     "sbatch": 'for last; do :; done\necho "$@" >> "$CALLS"\n(sh "$last"; echo $? > "$CALLS.$$") > /dev/null 2>&1 &\n'
@@ -213,6 +231,49 @@ def grown(folder: Path, programs: Path) -> Results:
     said, status = study(folder, SEEDS.format("2"), programs)
     yield ("one seed less runs none",
            None if status == 0 and rows_made(out) == before and len(table(out)) == 8 else f"{said!r}, {status}")
+
+
+def rows_of(name: str, loop: str) -> Iterator[dict[str, str]]:
+    """The lines of a loop in a table of another program's figures."""
+    lines = [line.split("\t") for line in (ROOT / "tests" / name).read_text().splitlines() if line[0] != "#"]
+    return (row for line in lines[1:] for row in [dict(zip(lines[0], line))] if row["example"] == loop)
+
+
+def dear(folder: Path, programs: Path) -> Results:
+    """Runs in which turns cost something, and in which loads wait."""
+    said, status = study(folder, DEAR, programs)
+    out = folder / "out"
+    yield "costs and held runs", None if (said, status) == ("", 0) else f"{said!r}, {status}"
+    rows = {(row["schedule"], row["costs"], row["cores"]): row for row in table(out)}
+    yield "a row for each", differs(list(rows), [(schedule, costs, cores) for cores in "14" for schedule in ("even",
+                                                 "held") for costs in ("", *SETS.values())])
+    names = dict(zip(COLUMNS, [*COLUMNS[:6], "lost", "dropped", *COLUMNS[8:]]))
+    for known in rows_of("costs.tsv", "own_counters"):
+        row = rows.get(("even", SETS.get(known["costs"], "none"), known["cores"]))
+        if row and known["store"] == "caches":
+            yield (f"where the steps went at {row['costs']} on {row['cores']} cores",
+                   differs([row[name] for name in COLUMNS], [known[name] for name in names.values()]))
+    known = next(row for row in rows_of("held.tsv", "own_counters") if (row["store"], row["cores"]) == ("caches", "4"))
+    held, even = rows["held", "", "4"], rows["even", "", "4"]
+    yield "where loads wait", differs([held["steps"], held["restarts"], even["steps"], even["restarts"]],
+                                      [known[name] for name in ("waits", "waiting_restarts", "speculates",
+                                                                "restarts")])
+    wrong = [row for row in rows.values()
+             if sum(int(row[name] or 0) for name in PARTS) != int(row["cores"]) * int(row["steps"])]
+    yield "each step of each core is counted once", None if not wrong else f"{wrong}"
+    page = (out / "page.html").read_text()
+    heads = [there(one.find("button")).text for one in ElementTree.fromstring(
+        page.partition('<table id="runs"><thead>')[2].partition("</thead>")[0]).findall("th")]
+    yield "the columns of its page", differs([name for name in ("costs", "order", "queue", "held") if name in heads],
+                                             ["costs", "order", "queue", "held"])
+    drawn = [path.name for path in sorted(out.glob("gains*.svg"))]
+    yield "a plot at each of its costs", differs(
+        (drawn, page.count("<svg"), page.count("<h2>Where turns cost bus=10")),
+        (["gains-1.svg", "gains-2.svg", "gains.svg"], 3, 2))
+    before = rows_made(out)
+    said, status = study(folder, DEAR.replace(', "bus=10,hold=10"', ""), programs)
+    yield "costs less run nothing", None if status == 0 and rows_made(out) == before and len(
+        table(out)) == 8 else f"{said!r}, {status}"
 
 
 def wait_for(out: Path, rows: int, run: subprocess.Popen[str] | subprocess.Popen[bytes]) -> None:
@@ -394,7 +455,7 @@ def main() -> int:
     script = Script()
     with tempfile.TemporaryDirectory() as room:
         programs = furnished(Path(room), script.command())
-        parts = [plans, studied, grown, stopped, misused, on_a_cluster, failing]
+        parts = [plans, studied, grown, dear, stopped, misused, on_a_cluster, failing]
         lacks = lacking(programs)
         if lacks:
             left_out("studies", lacks)

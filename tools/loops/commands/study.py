@@ -10,6 +10,8 @@ FILE.toml has, for example:
     stores = ["caches", "caches:sets=64,ways=4,buffer=16", "plain"]
     schedules = ["even", "seeded"]      # and "threads", whose figures differ from run to run
     seeds = [1, 2, 3]
+    held = true                         # at even speed also where loads wait for what earlier epochs store
+    costs = ["bus=10", "miss=20,line=20,hold=5"]    # and also where turns cost so much
     gain = 8                            # plots of what each loop gains on up to 8 cores
     [loops]
     histogram = "histogram.image"
@@ -90,21 +92,22 @@ def locked(folder: Path) -> int:
     return held
 
 
-def plot(study: Study, folder: Path) -> str:
-    """The plot of what loops gain, which is kept as gains.svg too."""
-    (folder / "gains").mkdir(exist_ok=True)
+def plot(study: Study, folder: Path, place: int, costs: str | None) -> str:
+    """The plot of what loops gain at these costs, which is kept as gains.svg too, or with the costs' place."""
+    lines_in = folder / "gains" / str(place)
+    lines_in.mkdir(parents=True, exist_ok=True)
     words = []
-    for place, (loop, works) in enumerate(study.plotted().items()):
+    for number, (loop, works) in enumerate(study.plotted(costs).items()):
         lines = study.plotted_lines(works)
         if lines:
-            (folder / "gains" / f"{place}.txt").write_text(lines, encoding="ascii")
-            words.append(f"{loop}=gains/{place}.txt")
+            (lines_in / f"{number}.txt").write_text(lines, encoding="ascii")
+            words.append(f"{loop}=gains/{place}/{number}.txt")
     if not words:
         return ""
     done = subprocess.run([*words_of("commands.plot"), *words], cwd=folder, stdout=subprocess.PIPE, check=False)
     if done.returncode:
         raise OSError("there is no plot of the gains")
-    (folder / "gains.svg").write_bytes(done.stdout)
+    (folder / f"gains{f'-{place}' if place else ''}.svg").write_bytes(done.stdout)
     return done.stdout.decode("utf-8").partition("<svg")[2].join(["<svg", ""])
 
 
@@ -112,7 +115,8 @@ def put_together(study: Study, kept: Kept) -> None:
     """The tables and the page."""
     rows: list[Row] = study.run_rows()
     write_tables(study, kept, rows)
-    (kept.folder / "page.html").write_text(page(study.plan, rows, plot(study, kept.folder)), encoding="utf-8",
+    plots = [(costs, plot(study, kept.folder, place, costs)) for place, costs in enumerate(study.plan.all_costs())]
+    (kept.folder / "page.html").write_text(page(study.plan, rows, plots), encoding="utf-8",
                                            errors="backslashreplace")
 
 

@@ -18,7 +18,8 @@ from typing import Any
 # To be counted up where rows get other fields, or fields another meaning.
 FORM = 1
 # The programs that each schedule takes; `gain` isn't one, and stands among them as what is asked of an image.
-USES = {"even": ("replay", "why"), "seeded": ("replay", "why"), "threads": ("trace_cli", "why"), "gain": ("gain",)}
+USES = {"even": ("replay", "why"), "held": ("replay", "why"), "seeded": ("replay", "why"),
+        "threads": ("trace_cli", "why"), "gain": ("gain",)}
 
 Row = dict[str, Any]
 
@@ -30,13 +31,16 @@ def digest(data: bytes) -> str:
 
 @dataclass(frozen=True)
 class Work:
-    """What is asked: a run, or what the image gains on up to so many cores."""
+    """What is asked: a run, or what the image gains on up to so many cores, where it is asked for also where loads
+    wait."""
     image: str                                          # the digest of its text
     version: int                                        # as which version of images it is run
     cores: int
     schedule: str                                       # one of USES
     store: str | None = None
     seed: int | None = None
+    costs: str | None = None
+    held: bool = False                                  # of `gain` alone: a run has its own schedule
     programs: tuple[tuple[str, str], ...] = ()          # each with its digest
     form: int = field(default=FORM)
 
@@ -47,7 +51,7 @@ class Work:
     def says(self) -> str:
         """For people."""
         ways = [f"version {self.version}", self.store, f"{self.cores} cores", self.schedule,
-                None if self.seed is None else f"seed {self.seed}"]
+                None if self.seed is None else f"seed {self.seed}", self.costs]
         return f"image {self.image[:12]}, {', '.join(filter(None, ways))}"
 
 

@@ -13,12 +13,15 @@ from .plans import Plan
 
 HERE = Path(__file__).resolve().parent
 KEYS = ["loop", "version", "store", "cores", "schedule"]
-SHOWN = [*KEYS, "seed", "ending", "steps", "gain", "committed", "useful", "rollbacks", "lost", "dropped", "true",
-         "silent", "false", "buffer"]
+SHOWN = [*KEYS, "costs", "seed", "ending", "steps", "gain", "order", "busy", "handling", "memory", "queue", "held",
+         "committed", "useful", "rollbacks", "lost", "dropped", "true", "silent", "false", "buffer"]
+# Those that are there where some run has them: of runs in which turns cost something, and in which loads wait
+WHERE_THERE = {"costs", "order", "busy", "handling", "memory", "queue", "held"}
 # Of these the least, the middle and the most over the seeds.
 SPREAD = ["steps", "gain", "rollbacks", "lost"]
 # A word is sorted as a word, and these are numbers.
-WORDS = {"loop", "store", "schedule", "ending"}
+ORDER = "The order is what the loop takes in order, where turns cost as much. "
+WORDS = {"loop", "store", "schedule", "costs", "ending"}
 
 
 def said(value: object) -> str:
@@ -58,10 +61,22 @@ def seeds_table(rows: list[Row]) -> str:
     return f"<h2>Over all seeds</h2>\n{table('seeds', heads, found)}" if found else ""
 
 
-def page(plan: Plan, rows: list[Row], plot: str) -> str:
-    """The whole page, which stands alone."""
+def shown_names(rows: list[Row]) -> list[str]:
+    """The columns of the table of all runs."""
+    return [name for name in SHOWN if name not in WHERE_THERE or any(row.get(name) is not None for row in rows)]
+
+
+def plots_told(plots: list[tuple[str | None, str]]) -> str:
+    """The plots, each at its costs."""
+    return "\n".join(plot if costs is None else f"<h2>Where turns cost {said(costs)}</h2>\n{plot}"
+                     for costs, plot in plots if plot)
+
+
+def page(plan: Plan, rows: list[Row], plots: list[tuple[str | None, str]]) -> str:
+    """The whole page, which stands alone. The plots have the costs at which they are."""
     title = (f"A study of {len(plan.loops)} loop{'s' * (len(plan.loops) != 1)}, {len(rows):,} "
              f"run{'s' * (len(rows) != 1)}")
+    names = shown_names(rows)
     stopped = "".join(f"<p>{said(row['loop'])} on {row['cores']} cores, {row['schedule']}: {said(row['stopped'])}</p>\n"
                       for row in rows if row["stopped"])
     style, script = ((HERE / name).read_text(encoding="utf-8") for name in ("page.css", "page.js"))
@@ -69,10 +84,10 @@ def page(plan: Plan, rows: list[Row], plot: str) -> str:
             f'content="width=device-width"><title>{title}</title>\n'
             f"<style>\n{style}</style></head><body>\n<h1>{title}</h1>\n"
             '<p><a href="runs.csv">runs.csv</a>, <a href="pairs.csv">pairs.csv</a>, <a '
-            f'href="manifest.json">manifest.json</a></p>\n{plot}\n{stopped}'
+            f'href="manifest.json">manifest.json</a></p>\n{plots_told(plots)}\n{stopped}'
             f"{seeds_table(rows)}<h2>All runs</h2>\n<p>Steps at even speed are those of <code>gain</code>, an "
-            "instruction a step; by other schedules they are the turns "
-            "of a run shared out over its cores. The gain is how many times more one core alone takes. A click on a "
-            "head sorts by it.</p>\n"
-            f"{table('runs', SHOWN, ([row.get(name) for name in SHOWN] for row in rows))}<script>\n{script}</script>\n"
+            "instruction a step and what turns cost; by other schedules they are the turns "
+            "of a run shared out over its cores. The gain is how many times more one core alone takes. "
+            f"{ORDER if 'order' in names else ''}A click on a head sorts by it.</p>\n"
+            f"{table('runs', names, ([row.get(name) for name in names] for row in rows))}<script>\n{script}</script>\n"
             "</body></html>\n")

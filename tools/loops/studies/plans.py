@@ -5,11 +5,13 @@ import itertools
 import json
 import sys
 import tomllib
+from collections.abc import Callable
 from dataclasses import asdict, dataclass, field
 from pathlib import Path
 from typing import Any
 
 from loops import Unreadable, read_image
+from loops.costs import BadCosts, costs_words
 from loops.stores import BadStore, asked_by
 from loops.texts import shown, text_in
 
@@ -17,6 +19,8 @@ SCHEMA = Path(__file__).with_name("schema.json")
 DEBIANS_PACKAGES = "/usr/lib/python3/dist-packages"
 # The most bytes of an image that the programs read, and the most cells that are planned.
 LONGEST_IMAGE, MOST_CELLS = 33_554_432, 1_000_000
+# The schedules in which turns may cost something: at even speed, and the same where loads wait
+PACED = ("even", "held")
 
 
 class BadPlan(ValueError):
@@ -25,13 +29,15 @@ class BadPlan(ValueError):
 
 @dataclass(frozen=True)
 class Cell:
-    """One run. Seeds are of seeded schedules alone; a run on threads is over the caches of the image's version."""
+    """One run. Seeds are of seeded schedules alone, and costs of those at even speed; a run on threads is over the
+    caches of the image's version."""
     loop: str
     version: int
     store: str
     cores: int
     schedule: str
     seed: int | None
+    costs: str | None
 
 
 @dataclass
@@ -43,26 +49,36 @@ class Plan:
     stores: list[str] = field(default_factory=lambda: ["caches", "plain"])
     schedules: list[str] = field(default_factory=lambda: ["even"])
     seeds: list[int] = field(default_factory=lambda: [1])
+    held: bool = False                                          # also the runs at even speed in which loads wait
+    costs: list[str] = field(default_factory=list)              # at which those are run too, besides at none
     gain: int = 0                                               # up to so many cores; 0 asks for no plots
     texts: dict[str, bytes] = field(default_factory=dict)       # the images' own, by the names
 
     def cells(self) -> list[Cell]:
         """The runs, loops first."""
         found = []
-        for loop, version, cores, schedule in itertools.product(self.loops, self.versions, self.cores, self.schedules):
-            found += [Cell(loop, version, store, cores, schedule, seed) for store, seed in self.ways(schedule)]
+        for loop, version, cores, schedule in itertools.product(self.loops, self.versions, self.cores, self.paces()):
+            found += [Cell(loop, version, store, cores, schedule, seed, costs)
+                      for store, seed, costs in itertools.product(*self.ways(schedule))]
         return found
 
-    def ways(self, schedule: str) -> list[tuple[str, int | None]]:
-        """The stores and seeds of a schedule."""
-        stores = ["caches"] if schedule == "threads" else self.stores
-        seeds: list[int | None] = [*self.seeds] if schedule == "seeded" else [None]
-        return [(store, seed) for store in stores for seed in seeds]
+    def paces(self) -> list[str]:
+        """The schedules, that in which loads wait behind that at even speed."""
+        return [one for schedule in self.schedules
+                for one in (PACED if schedule == "even" and self.held else [schedule])]
+
+    def ways(self, schedule: str) -> tuple[list[str], list[int | None], list[str | None]]:
+        """The stores, seeds and costs of a schedule."""
+        return (["caches"] if schedule == "threads" else self.stores, [*self.seeds] if schedule == "seeded" else [None],
+                self.all_costs() if schedule in PACED else [None])
+
+    def all_costs(self) -> list[str | None]:
+        """At which costs runs at even speed are run: first at none."""
+        return [None, *self.costs]
 
     def count(self) -> int:
         """How many runs there are."""
-        ways = sum((1 if schedule == "threads" else len(self.stores)) * (len(self.seeds) if schedule == "seeded" else 1)
-                   for schedule in self.schedules)
+        ways = sum(len(stores) * len(seeds) * len(costs) for stores, seeds, costs in map(self.ways, self.paces()))
         return len(self.loops) * len(self.versions) * len(self.cores) * ways
 
     def text(self) -> dict[str, Any]:
@@ -119,14 +135,24 @@ def wrong_places(told: dict[str, Any]) -> list[str]:
     return lines
 
 
-def wrong_stores(words: list[str]) -> list[str]:
-    """The words that name no store, a line each."""
+def wrong_words(field_name: str, words: list[str], check: Callable[[str], object]) -> list[str]:
+    """The words of a field that name no store or say no costs, a line each."""
     lines = []
     for place, word in enumerate(words):
         try:
-            asked_by(word)
-        except BadStore as wrong:
-            lines.append(f"stores[{place}]: {wrong}")
+            check(word)
+        except (BadStore, BadCosts) as wrong:
+            lines.append(f"{field_name}[{place}]: {wrong}")
+    return lines
+
+
+def wrong_fields(told: dict[str, Any]) -> list[str]:
+    """What the schema can't say: words of stores and costs, and what is asked of runs that there aren't."""
+    lines = wrong_words("stores", told.get("stores", []), asked_by)
+    lines += wrong_words("costs", told.get("costs", []), costs_words)
+    if "even" not in told.get("schedules", ["even"]):
+        lines += [f'{name}: asked of runs at even speed, and schedules has no "even"' for name in ("held", "costs")
+                  if told.get(name)]
     return lines
 
 
@@ -158,7 +184,7 @@ def table_of(path: Path) -> dict[str, Any]:
 def read_plan(path: Path) -> Plan:
     """The plan of a file, with the texts of its images, whose paths are from that file."""
     told = table_of(path)
-    lines = wrong_places(told) or wrong_stores(told.get("stores", []))
+    lines = wrong_places(told) or wrong_fields(told)
     if lines:
         raise BadPlan("\n".join(lines))
     plan = Plan(**told)

@@ -11,6 +11,7 @@ from pathlib import Path
 from typing import TextIO
 
 from loops import Image, Stopped, read_conflicts, read_image, read_output
+from loops.costs import costs_words
 from loops.programs import call, why_words
 from loops.texts import shown, text_in
 
@@ -67,7 +68,7 @@ class Runner:
     def gains(self, work: Work) -> Row:
         """What `gain` prints of an image."""
         _, text = self.image(work.image, work.version)
-        return {"gain": call(self.programs["gain"], [str(work.cores), *([work.store] if work.store else [])], text)}
+        return {"gain": call(self.programs["gain"], gain_words(work), text)}
 
     def run(self, work: Work) -> Row:
         """A run, its sums and its pairs of instructions."""
@@ -95,8 +96,18 @@ def words_of(work: Work) -> list[str]:
     """How the program of a run is called."""
     if work.schedule == "threads":
         return ["run", "--cores", str(work.cores), "--trace"]
-    drawn = ["even"] if work.schedule == "even" else ["seeded", str(work.seed)]
-    return [*drawn, str(work.store), str(work.cores)]
+    drawn = ["seeded", str(work.seed)] if work.schedule == "seeded" else [work.schedule]
+    return [*drawn, str(work.store), str(work.cores), *cost_words(work)]
+
+
+def gain_words(work: Work) -> list[str]:
+    """How `gain` is called."""
+    return [str(work.cores), *([work.store] if work.store else []), *["--held"] * work.held, *cost_words(work)]
+
+
+def cost_words(work: Work) -> list[str]:
+    """The words of what turns cost."""
+    return [] if work.costs is None else costs_words(work.costs)
 
 
 def turns_in(trace: str) -> int:

@@ -4,7 +4,7 @@ manifest.json."""
 import csv
 import json
 import subprocess
-from dataclasses import asdict
+from dataclasses import asdict, replace
 from functools import cache, cached_property
 from pathlib import Path
 
@@ -15,10 +15,15 @@ from loops.stores import USUAL
 from loops.texts import shown, text_in
 
 from .kept import USES, Kept, Row, Work
-from .plans import Cell, Plan
+from .plans import PACED, Cell, Plan
 
 # `gain` runs on these numbers of cores besides the one that it is asked for, as far as they are fewer.
 POWERS = (1, 2, 4, 8)
+# Where the steps of all cores of a run at even speed went, as `gain` has it: a column of runs.csv each. Those that
+# `why` counts too, in instructions, are called steps.
+STEPS = {"order": "order", "useful": "useful_steps", "busy": "busy", "handling": "handling", "memory": "memory",
+         "queue": "queue", "lost": "lost_steps", "dropped": "dropped_steps", "waiting": "waiting", "held": "held",
+         "idle": "idle"}
 
 
 class Study:
@@ -28,19 +33,18 @@ class Study:
         self.plan, self.images, self.programs = plan, images, programs
         self.rows: dict[Work, Row] = {}
 
-    def work(self, image: str, version: int, cores: int, schedule: str, store: str | None = None,
-             seed: int | None = None) -> Work:
+    def with_programs(self, work: Work) -> Work:
         """A piece of work, with the digests of the programs that it takes."""
-        return Work(image, version, cores, schedule, store, seed,
-                    tuple((name, self.programs[name]) for name in sorted(USES[schedule])))
+        return replace(work, programs=tuple((name, self.programs[name]) for name in sorted(USES[work.schedule])))
 
     def run_of(self, cell: Cell) -> Work:
         """The run of a cell."""
-        return self.work(self.images[cell.loop], cell.version, cell.cores, cell.schedule, cell.store, cell.seed)
+        return self.with_programs(Work(self.images[cell.loop], cell.version, cell.cores, cell.schedule, cell.store,
+                                       cell.seed, cell.costs))
 
     def alone(self, cell: Cell) -> Work:
         """The run on one core that a cell's gain is measured by. On one core all schedules are the same."""
-        return self.work(self.images[cell.loop], cell.version, 1, "even", cell.store)
+        return self.with_programs(Work(self.images[cell.loop], cell.version, 1, "even", cell.store))
 
     def gains_of(self, cell: Cell) -> Work | None:
         """Of a cell at even speed what `gain` is asked; None where it hasn't so many cores."""
@@ -48,20 +52,23 @@ class Study:
         if cell.cores > most:
             return None
         return self.gains(self.images[cell.loop], cell.version, most if cell.cores in POWERS else cell.cores,
-                          cell.store)
+                          cell.store, cell.costs)
 
-    def gains(self, image: str, version: int, cores: int, store: str) -> Work:
-        """What `gain` is asked over a store: it is asked for caches and the plain store together."""
-        return self.work(image, version, cores, "gain", None if store in USUAL else store)
+    def gains(self, image: str, version: int, cores: int, store: str, costs: str | None) -> Work:
+        """What `gain` is asked over a store: it is asked for caches and the plain store together, and for runs in which
+        loads wait beside the others."""
+        return self.with_programs(Work(image, version, cores, "gain", None if store in USUAL else store, costs=costs,
+                                       held=self.plan.held))
 
-    def plotted(self) -> dict[str, list[Work]]:
-        """What `gain` is asked of each loop for the plot, in the version of its image."""
+    def plotted(self, costs: str | None) -> dict[str, list[Work]]:
+        """What `gain` is asked of each loop for the plot at these costs, in the version of its image."""
         return ({} if not self.plan.gain
-                else {loop: self.plotted_of(image, read_image(text_in(self.plan.texts[loop])).version)
+                else {loop: self.plotted_of(image, read_image(text_in(self.plan.texts[loop])).version, costs)
                       for loop, image in self.images.items()})
 
-    def plotted_of(self, image: str, version: int) -> list[Work]:
-        return list(dict.fromkeys(self.gains(image, version, self.plan.gain, store) for store in self.plan.stores))
+    def plotted_of(self, image: str, version: int, costs: str | None) -> list[Work]:
+        return list(dict.fromkeys(self.gains(image, version, self.plan.gain, store, costs)
+                                  for store in self.plan.stores))
 
     def plotted_lines(self, works: list[Work]) -> str:
         """What `gain` printed over the stores of the plan, in their order; nothing where it was stopped."""
@@ -77,23 +84,26 @@ class Study:
         found: dict[Work, None] = {}
         for cell in self.cells:
             found[self.run_of(cell)] = None
-            more = self.gains_of(cell) if cell.schedule == "even" else self.alone(cell)
+            more = self.gains_of(cell) if cell.schedule in PACED else self.alone(cell)
             if more:
                 found[more] = None
-        return list(found | dict.fromkeys(work for works in self.plotted().values() for work in works))
+        return list(found | dict.fromkeys(work for costs in self.plan.all_costs()
+                                          for works in self.plotted(costs).values() for work in works))
 
-    def gained(self, work: Work | None, store: str, cores: int) -> Gain | None:
-        """What `gain` said of a run."""
+    def gained(self, cell: Cell) -> Gain | None:
+        """What `gain` said of a run at even speed."""
+        work, word = self.gains_of(cell), f"held {cell.store}" if cell.schedule == "held" else cell.store
         told = self.rows[work].get("gain") if work else None
-        return gains_in(told).of(store, cores) if told else None
+        return gains_in(told).of(word, cell.cores) if told else None
 
     def speed(self, cell: Cell, row: Row) -> Row:
         """How many steps a cell took, and how many times fewer these are than on one core: at even speed as `gain`
-        says, else its turns shared out over the cores."""
-        if cell.schedule == "even":
-            found = self.gained(self.gains_of(cell), cell.store, cell.cores)
+        says, with where the steps of all cores went, else its turns shared out over the cores."""
+        if cell.schedule in PACED:
+            found = self.gained(cell)
             return {"steps": found and found.steps,
-                    "gain": found.told("gain") if found and found.gain is not None else None}
+                    "gain": found.told("gain") if found and found.gain is not None else None,
+                    **{column: found and getattr(found, name) for name, column in STEPS.items()}}
         one, turns = self.rows[self.alone(cell)]["run"].get("turns"), row.get("turns")
         steps = None if turns is None else -(-turns // cell.cores)
         return {"steps": steps, "gain": f"{one * cell.cores * 100 // turns / 100:.2f}" if one and turns else None}
