@@ -240,8 +240,103 @@ def costed(folder: str) -> Iterator[Check]:
     # 643 and 410 of 236 steps
     yield "hundredths of the loop in order", differs([text for text in told if text in ("272", "174")], ["272", "174"])
     yield "and the note says so", None if "of the loop in order" in " ".join(told) else f"{told}"
-    yield "no line of a limit where turns cost", differs(
-        [one.get("id") for one in timed.iter(f"{SVG}g") if re.fullmatch(r"one-\d+-\w+", one.get("id", ""))], [])
+
+
+def dear_lines(costs: str) -> str:
+    """The lines of `gain` of own_counters at the costs of this name, and its limits: what tests/costs.tsv and
+    tests/limits.tsv have, by another program."""
+    made = []
+    for row in rows_of("costs.tsv"):
+        if row["costs"] == costs:
+            names = "store cores steps gain order busy handling memory queue lost dropped waiting idle restarts"
+            words = {name: row.get(name, "0") for name in names.split()}
+            words |= {"gain": "1.00", "true": row["restarts"], **dict.fromkeys(NAMES[11:], "0"),
+                      "nothomefree": row["waiting"]}
+            made.append(" ".join(f"{name} {word}" for name, word in words.items()) + "\n")
+    return "".join(made) + "".join(f"limit cores {row['cores']} forward {row['forward']} commit {row['commit']}\n"
+                                   for row in rows_of("limits.tsv"))
+
+
+def rows_of(name: str) -> Iterator[dict[str, str]]:
+    """The rows of own_counters in a table of another program's figures."""
+    lines = [line.split("\t") for line in (ROOT / "tests" / name).read_text().splitlines() if line[0] != "#"]
+    return (row for line in lines[1:] for row in [dict(zip(lines[0], line))] if row["example"] == "own_counters")
+
+
+# Which lines of own_counters are drawn at costs, by stores, and what the note says of lines. It takes 432 instructions;
+# over caches its loop in order pays for misses where these cost.
+DRAWN = ("Lines: what dependences allow of turns that cost nothing, where a load waits for the commit (whole) or for "
+         "the store (dotted)")
+NOT_DRAWN = ("What dependences allow isn't drawn: it is of turns that cost nothing, and here the loop in order pays "
+             "for its misses.")
+BOTH = ("caches", "plain")
+DEAR: list[tuple[str, tuple[str, ...], tuple[str, ...], str]] = [
+    ("hand10", BOTH, BOTH, f"{DRAWN}."), ("ideal", ("caches",), ("caches",), f"{DRAWN}."),
+    ("bus10", BOTH, ("plain",), f"{DRAWN}; none where the loop in order pays for its misses."),
+    ("mem20", ("caches",), (), NOT_DRAWN)]
+
+
+def noted(root: xml.Element) -> str:
+    """What the note of a plot says of lines, on one line."""
+    lines = next(text for group in root.iter(f"{SVG}g") if group.get("id", "").startswith("text_")
+                 for text in [" ".join(group.itertext())] if "Each bar is" in text)
+    return " ".join(lines.split()).partition("by their violations.")[2].strip()
+
+
+def dear(folder: str) -> Iterator[Check]:
+    """Where turns cost, limits are drawn over those bars alone that are measured by a loop in order of free turns."""
+    for costs, stores, marked, said in DEAR:
+        path = Path(folder, f"{costs}.txt")
+        path.write_text("".join(line for line in dear_lines(costs).splitlines(True)
+                                if line.startswith(("limit", *(f"store {store} " for store in stores)))))
+        out, errors, status = plot("--times", f"dear={path}")
+        if "is not installed" in errors:
+            return
+        yield f"a plot at {costs}", differs((errors, status), ("", 0))
+        root = xml.fromstring(out)
+        high = {name: max(one for *_, one in parts) - min(one for _, one, _ in parts)
+                for name, parts in bars(root).items()}
+        foot = max(low for parts in bars(root).values() for _, _, low in parts)
+        wanted = {}
+        for store in marked:
+            one = next(row for row in rows_of("costs.tsv") if (row["costs"], row["store"], row["cores"])
+                       == (costs, store, "1"))
+            for row in rows_of("limits.tsv"):
+                for name in ("commit", "forward"):
+                    wanted[f"dear-{store}-{row['cores']}-{name}"] = round(
+                        high[f"dear-{store}-1"] * int(row[name]) / int(one["steps"]))
+        got = {name: round(foot - y) for name, (y, _) in marks_of(root, r"dear-(\w+-)?\d+").items()}
+        yield f"the limits at {costs}", differs(got, wanted)
+        yield f"what the note says of lines at {costs}", differs(noted(root), said)
+    path.write_text("".join(line for line in dear_lines("bus10").splitlines(True) if not line.startswith("limit")))
+    root = xml.fromstring(plot("--times", f"dear={path}")[0])
+    yield "the note without limits", differs(noted(root), "")
+
+
+def tall(folder: str) -> Iterator[Check]:
+    """The words beside a tall axis are whole: that of 12,000 % too."""
+    path = Path(folder, "tall.txt")
+    for steps, word in ((12, "1200 %"), (120, "12000 %")):
+        path.write_text(text_of(f"caches 1 {steps} 1.00 1 0 0 0 0 0 0 0 0 0 0 0 0 0").replace("useful 1", (
+            f"order 1 busy 1 handling {steps - 1} memory 0 queue 0")))
+        out, errors, _ = plot("--times", f"tall={path}")
+        if "is not installed" in errors:
+            return
+        found = {"".join(text.itertext()).strip(): text.get("x") or ""
+                 for text in xml.fromstring(out).iter(f"{SVG}text")}
+        # A letter of a tick's word, 6.2 points high, is about 4 wide.
+        yield f"{word} is whole", None if float(found.get(word) or 0) >= 4 * len(word) else f"{found}"
+
+
+def marks_of(root: xml.Element, name: str) -> dict[str, tuple[float, bool]]:
+    """How low the line of each limit is whose loop, store and cores are so, and whether it is dotted."""
+    found = {}
+    for group in root.iter(f"{SVG}g"):
+        if re.fullmatch(name + "-(commit|forward)", group.get("id", "")):
+            path_of = there(group.find(f"{SVG}path"))
+            found[group.get("id", "")] = (float(re.findall(r"M [-\d.]+ ([-\d.]+)", path_of.get("d", ""))[0]),
+                                          "stroke-dasharray" in path_of.get("style", ""))
+    return found
 
 
 # Of own_counters the limits of 1 and of 4 cores
@@ -265,17 +360,16 @@ def times(folder: str) -> Iterator[Check]:
     texts = ["".join(text.itertext()).strip() for text in root.iter(f"{SVG}text")]
     yield "the hundredths above them", differs([text for text in texts if text in ("100", "92", "25")],
                                                ["100", "92", "100", "25"])
-    lines = {}
-    for group in root.iter(f"{SVG}g"):
-        if re.fullmatch(r"timed-\d+-(commit|forward)", group.get("id", "")):
-            path_of = there(group.find(f"{SVG}path"))
-            lines[group.get("id", "")] = (float(re.findall(r"M [-\d.]+ ([-\d.]+)", path_of.get("d", ""))[0]),
-                                          "stroke-dasharray" in path_of.get("style", ""))
+    lines = marks_of(root, r"timed-\d+")
     foot = max(low for parts in bars(root).values() for _, _, low in parts)
     marks = {name: (round(100 * (foot - y) / one), dotted) for name, (y, dotted) in lines.items()}
     yield "a line for each limit, of which one is dotted", differs(
         marks, {"timed-1-commit": (100, False), "timed-1-forward": (100, True), "timed-4-commit": (25, False),
                 "timed-4-forward": (12, True)})
+    yield "what the note says of lines", differs(noted(root), (
+        "Lines: what dependences allow, where a load waits for the commit (whole) or for the store (dotted)."))
+    path.write_text(text_of(LINES["own_counters"]))
+    yield "no lines and no word of them", differs(noted(xml.fromstring(plot("--times", f"timed={path}")[0])), "")
     got = plot("--times", "--sizes", f"timed={path}")
     yield "both forms", None if got[0] == "" and "not allowed with" in got[1] and got[2] == 2 else f"{got}"
 
@@ -321,7 +415,8 @@ def main() -> int:
     with tempfile.TemporaryDirectory() as folder:
         words = list(files(folder))
         script.run(partial(plots, words), partial(tables, words, folder), partial(many, folder),
-                   partial(held, folder), partial(costed, folder), partial(times, folder), partial(depends, folder))
+                   partial(held, folder), partial(costed, folder), partial(dear, folder), partial(tall, folder),
+                   partial(times, folder), partial(depends, folder))
     return script.ended()
 
 

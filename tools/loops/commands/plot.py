@@ -7,9 +7,9 @@ Each FILE has the lines of one loop, called NAME, or without `NAME=` after the f
 read. --csv writes a row for each run in the place of the plot, of `depends` for each line `dep`. --sizes draws what
 loops gain by the size of the caches, of lines over several stores. --times draws the time of each run in hundredths of
 the loop on one core, and what its dependences allow, of lines of `gain --limits`; of lines of `gain --costs`, in
-hundredths of the loop in order. Where FOLDER has NAME.image, its remarks name variables and lines of dependences. The
-same lines give the same bytes. The plot needs Debian's python3-matplotlib. What is no line of either program is refused
-with a line on standard error and status 2.
+hundredths of the loop in order, and what dependences allow only where that pays for no miss. Where FOLDER has
+NAME.image, its remarks name variables and lines of dependences. The same lines give the same bytes. The plot needs
+Debian's python3-matplotlib. What is no line of either program is refused with a line on standard error and status 2.
 """
 
 import argparse

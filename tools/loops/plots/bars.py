@@ -22,6 +22,9 @@ MOST_COLUMNS, PANEL_WIDTH, PANEL_HEIGHT = 3, 3.1, 1.8
 MOST_TICKS = 5
 # So wide are the bars of a number of cores together, and so far are they apart at most.
 WIDTH, GAP, INK, PALE = 0.88, 0.04, "#1d2733", "#6b7785"
+# So many inches stand left of the bars, and so much wider are panels apart than that of their width, where the words
+# of the ticks have up to three digits; and what each further digit takes of both.
+LEFT, APART, DIGIT_LEFT, DIGIT_APART = 0.4, 0.16, 0.06, 0.03
 # So many letters of the note fit in an inch, and so high is a line of it.
 LETTERS, NOTE_LINE = 21, 0.12
 NOTE = ("Each bar is all steps of all cores of a run at even speed, one instruction a step and {pace}; above it "
@@ -66,8 +69,12 @@ class Scale:
         """What stands above a bar."""
         return "full" if run.full else "-" if run.gain is None else f"{run.gain:.2f}"
 
-    def mark(self, axes: Axes, loop: Loop, cores: int, place: int) -> None:
+    def mark(self, axes: Axes, loop: Loop, cores: int, place: int, stores: "Stores") -> None:
         """What is drawn over the bars of a number of cores: nothing."""
+
+    def marks_told(self, loops: list[Loop]) -> str:
+        """What the note says of that."""
+        return ""
 
 
 class Stores:
@@ -115,26 +122,37 @@ def ticks_up_to(top: float) -> list[float]:
     return [apart * place for place in range(int(top / apart) + 1)]
 
 
+def words_up_to(top: float) -> list[str]:
+    """The words beside these ticks."""
+    return ["0", *(f"{100 * tick:.0f} %" for tick in ticks_up_to(top)[1:])]
+
+
+def further_digits(loops: list[Loop], scale: Scale) -> int:
+    """How many digits more than three the longest word of a tick has."""
+    return max(0, *(len(words_up_to(scale.top(loop))[-1]) - len("100 %") for loop in loops))
+
+
 def panel(axes: Axes, loop: Loop, stores: Stores, scale: Scale) -> None:
     """The bars of a loop."""
     cores, top = sorted({run.cores for run in loop.gains.runs}), scale.top(loop)
     for run in loop.gains.runs:
         bar(axes, loop, run, cores.index(run.cores) + stores.place(run.word), stores, scale)
     for place, count in enumerate(cores):
-        scale.mark(axes, loop, count, place)
+        scale.mark(axes, loop, count, place, stores)
     axes.set_title(loop.name, size=8.5, weight="bold", loc="left", pad=20 if stores.are_many() else 15)
     axes.set_xlim(-0.6, max(len(cores), 3) - 0.4)
     axes.set_ylim(0, top)
     axes.set_xticks(range(len(cores)), [f"{count} core{'s' if count > 1 else ''}" for count in cores], size=6.8)
     axes.tick_params(axis="x", length=0, pad=9)
-    ticks = ticks_up_to(top)
-    axes.set_yticks(ticks, ["0", *(f"{100 * tick:.0f} %" for tick in ticks[1:])], size=6.2)
+    axes.set_yticks(ticks_up_to(top), words_up_to(top), size=6.2)
     axes.spines[["top", "right"]].set_visible(False)
 
 
-def noted(stores: Stores, scale: Scale, columns: int, are_costed: bool) -> str:
+def noted(loops: list[Loop], stores: Stores, scale: Scale, columns: int) -> str:
     """The note below so many columns of panels, in lines that fit."""
+    are_costed = any(map(is_costed, loops))
     note = scale.note.format(stores=", ".join(stores.says.values()), pace=PACES[are_costed], whole=WHOLES[are_costed])
+    note += scale.marks_told(loops)
     return "\n".join(textwrap.fill(line, int(columns * PANEL_WIDTH * LETTERS), break_on_hyphens=False)
                      for line in note.split("\n"))
 
@@ -147,7 +165,7 @@ def drawn(loops: list[Loop], scale: Scale = Scale()) -> str:
     stores = Stores(loops)
     with matplotlib.rc_context(STYLE):
         columns = min(MOST_COLUMNS, max(2, len(loops)))
-        note = noted(stores, scale, columns, any(map(is_costed, loops)))
+        note = noted(loops, stores, scale, columns)
         more = NOTE_LINE * (note.count("\n") - 1)
         rows = -(-len(loops) // columns)
         occur = {part for loop in loops for run in loop.gains.runs if not run.full for part, _ in shares(run)}
@@ -156,8 +174,10 @@ def drawn(loops: list[Loop], scale: Scale = Scale()) -> str:
         below = 0.5 + 0.16 * -(-len(told) // columns) + more
         height = rows * PANEL_HEIGHT + below + 0.1
         figure, grid = pyplot.subplots(rows, columns, figsize=(columns * PANEL_WIDTH, height), squeeze=False)
-        figure.subplots_adjust(left=0.4 / (columns * PANEL_WIDTH), right=0.995, top=1 - 0.42 / height,
-                               bottom=(below + 0.35) / height, hspace=0.68, wspace=0.16)
+        digits = further_digits(loops, scale)
+        figure.subplots_adjust(left=(LEFT + DIGIT_LEFT * digits) / (columns * PANEL_WIDTH), right=0.995,
+                               top=1 - 0.42 / height, bottom=(below + 0.35) / height, hspace=0.68,
+                               wspace=APART + DIGIT_APART * digits)
         panels = list(grid.flat)
         for axes, loop in zip(panels, loops):
             panel(axes, loop, stores, scale)
