@@ -17,7 +17,7 @@ fn d(destination: Destination) -> u32 {
     x(destination.register())
 }
 
-/// The name of an instruction, and its fields in order, with 0 in the place of those that it lacks.
+/// The name of an instruction, and its fields in order, with 0 in the place of those that it lacks. FENCE, which has no row, has no name.
 #[rattlefmt::skip]
 fn shown(instr: Instr) -> (&'static str, [u32; 3]) {
     match instr {
@@ -58,7 +58,7 @@ fn shown(instr: Instr) -> (&'static str, [u32; 3]) {
         Instr::Sra { rd, rs1, rs2 } => ("sra", [d(rd), x(rs1), x(rs2)]),
         Instr::Or { rd, rs1, rs2 } => ("or", [d(rd), x(rs1), x(rs2)]),
         Instr::And { rd, rs1, rs2 } => ("and", [d(rd), x(rs1), x(rs2)]),
-        Instr::Fence => ("fence", [0, 0, 0]),
+        _ => ("", [0, 0, 0]),
     }
 }
 
