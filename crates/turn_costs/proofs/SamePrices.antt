@@ -5,9 +5,9 @@ use Rattle.spec_states.specs.States.{is_valid, is_modified}
 use Rattle.bus_states.specs.Bus.{Bus, line_of}
 use Rattle.bus_states.specs.Messages.{Room}
 use Rattle.bus_states.specs.Speculative.{holds_line}
-use Rattle.spec_bus.specs.Cached.{CachedView, bus, room, waits}
+use Rattle.spec_bus.specs.Cached.{CachedView, bus, place_of, room, waits}
 use Rattle.spec_bus.specs.Laws.{IsPlacedCore, HoldTheSame, AreAlike}
-use Rattle.spec_bus.proofs.SameRooms.{IsOneRoom, same_rooms, invalid_unmodified, calls_fixed}
+use Rattle.spec_bus.proofs.SameRooms.{IsOneRoom, same_place, same_rooms, invalid_unmodified, calls_fixed}
 use Rattle.turn_costs.specs.declared.actions.Actions.{Actions}
 use Rattle.turn_costs.specs.Accesses.{count_of, leaves_modified, is_modified_elsewhere, miss_of, hit_of, load_of, store_tells, store_of, publish_lines}
 use Rattle.turn_costs.specs.Actions.{no_actions}
@@ -36,24 +36,22 @@ module _ (b : Bus) (core line : ℕ) (r s : Option Room) (one : IsOneRoom r s) w
   same_store straight =
       ap (λ (miss : Actions). cond (holds_line b core line) (hit_of b straight (store_tells b straight core line) core line) miss) same_miss
 
-same_prices : (v w : CachedView) → ((k : ℕ) → IsPlacedCore v.cores k) → ((k : ℕ) → IsPlacedCore w.cores k) → bus v ≡ bus w
-    → AreSamePrices (bus_prices v) (bus_prices w)
-same_prices v w p q same = record {
-  load = λ straight core addr.
-      let n = line_of (bus v).line_length addr in
-      same_load (bus v) core n (room v core n) (room w core n) (same_rooms v w core (p core) (q core) same n) straight
-      ∙ ap (λ (b : Bus). load_of b straight core (line_of b.line_length addr) (room w core (line_of b.line_length addr))) same;
-  store = λ straight core addr.
-      let n = line_of (bus v).line_length addr in
-      same_store (bus v) core n (room v core n) (room w core n) (same_rooms v w core (p core) (q core) same n) straight
-      ∙ ap (λ (b : Bus). store_of b straight core (line_of b.line_length addr) (room w core (line_of b.line_length addr))) same;
-  lines = λ core. ap (λ (b : Bus). publish_lines b core) same;
-}
-
 pub prices_fixed : PricesAreFixed (λ (v : CachedView). (k : ℕ) → IsPlacedCore v.cores k) HoldTheSame bus_prices
-prices_fixed v w p q same = same_prices v w p q (sym same)
+prices_fixed v w p q same = record {
+  load = λ straight core addr.
+      let n = line_of (bus v).line_length (place_of v addr) in
+      same_load (bus v) core n (room v core n) (room w core n) (same_rooms v w core (p core) (q core) (sym same.bus_is) n) straight
+      ∙ (ap (λ (b : Bus). load_of b straight core (line_of b.line_length (place_of v addr)) (room w core (line_of b.line_length (place_of v addr)))) (sym same.bus_is)
+      ∙ ap (λ a. load_of (bus w) straight core (line_of (bus w).line_length a) (room w core (line_of (bus w).line_length a))) (same_place v w addr same));
+  store = λ straight core addr.
+      let n = line_of (bus v).line_length (place_of v addr) in
+      same_store (bus v) core n (room v core n) (room w core n) (same_rooms v w core (p core) (q core) (sym same.bus_is) n) straight
+      ∙ (ap (λ (b : Bus). store_of b straight core (line_of b.line_length (place_of v addr)) (room w core (line_of b.line_length (place_of v addr)))) (sym same.bus_is)
+      ∙ ap (λ a. store_of (bus w) straight core (line_of (bus w).line_length a) (room w core (line_of (bus w).line_length a))) (same_place v w addr same));
+  lines = λ core. ap (λ (b : Bus). publish_lines b core) (sym same.bus_is);
+}
 
 pub waits_fixed : WaitsAreFixed (λ (v : CachedView). (k : ℕ) → IsPlacedCore v.cores k) HoldTheSame waits
 waits_fixed v w p q same =
-    let both : AreAlike v w = calls_fixed [] v w v w (sym same) (p, refl) (q, refl) in
+    let both : AreAlike v w = calls_fixed [] v w v w same (p, refl) (q, refl) in
     record { load = both.load; store = both.store }
