@@ -4,6 +4,8 @@ pub mod Report
 pub mod Outcome
 pub mod Audit
 pub mod Program
+-- Addresses and stores, as words write them.
+pub mod Addresses
 pub mod Stores
 -- What the law says.
 pub mod Laws

@@ -1,6 +1,7 @@
 //! The commands of the program over any reader and writers, and the texts that they print.
 #![tactic(auto)]
 
+mod address;
 mod audit;
 pub mod laws;
 mod outcome;
@@ -12,6 +13,7 @@ mod stores;
 mod traced;
 mod write;
 
+pub use address::address_in;
 pub use audit::{do_audit, verdict_line, verdict_of};
 pub use outcome::{CommandStop, Outcome, Verdict};
 pub use program::{ROOM, first_word, number_up_to_16, only_number, words_given};

@@ -4,7 +4,8 @@ ghost use Rattle.rv32_image.specs.ImageText.{number_in, pieces};
 ghost use Rattle.rv32_image.specs.Machine.{IsMachineFor};
 ghost use Rattle.trace_commands.specs.Stores as spec;
 
-use rv32_image::{Image, Machine, cut, number_in};
+use crate::address::address_in;
+use rv32_image::{Apart, Image, Machine, cut, number_in};
 
 /// What is asked of a machine: None of what the version of an image says.
 #[derive(Clone, Copy, Debug, PartialEq, Eq)]
@@ -17,6 +18,8 @@ pub struct MachineAsked {
     pub ways: Option<u32>,
     /// Lines of an ownership required buffer.
     pub buffer_lines: Option<u32>,
+    /// Bytes that have lines of their own.
+    pub apart: Option<Apart>,
 }
 
 impl MachineAsked {
@@ -26,6 +29,7 @@ impl MachineAsked {
         sets: None,
         ways: None,
         buffer_lines: None,
+        apart: None,
     };
 
     /// The same machine, but for what is asked for.
@@ -37,6 +41,7 @@ impl MachineAsked {
             sets: self.sets.unwrap_or(machine.sets),
             ways: self.ways.unwrap_or(machine.ways),
             buffer_lines: self.buffer_lines.unwrap_or(machine.buffer_lines),
+            apart: self.apart.or(machine.apart),
         }
     }
 
@@ -71,30 +76,21 @@ impl Store {
     }
 }
 
-/// The store that a word names: `plain`, `caches`, or `caches:KEY=N,..` with the keys `line`, `sets`, `ways` and `buffer`, each at most
-/// once. None: it names none.
-#[tactic(auto, unfolding(crate::specs::Stores::store_named))]
+/// The store that a word names: `plain`, `caches`, or `caches:KEY=N,..` with the keys `line`, `sets`, `ways` and `buffer`, and with
+/// `apart=ADDR:LENGTH:PIECE`, each at most once. None: it names none.
+#[tactic(auto, using(crate::proofs::Storing::named_with_keys), unfolding(crate::specs::Stores::store_named))]
 pub fn store_named(word: &str) -> Option<Store>
     ensures { result ≡ spec.store_named word.now }
 {
-    let (name, rest) = cut(word.as_bytes(), b':');
-    match rest {
+    let (name, keys) = cut(word.as_bytes(), b':');
+    match keys {
         None => store_without_keys(name),
-        Some(rest) => {
-            let (keys, more) = cut(rest, b':');
-            match more {
-                None => store_with_keys(name, keys),
-                Some(more) => {
-                    let _third = cut(more, b':');
-                    None
-                }
-            }
-        }
+        Some(keys) => store_with_keys(name, keys),
     }
 }
 
 fn store_without_keys(name: &[u8]) -> Option<Store>
-    ensures { result ≡ spec.store_of (name.now ∷ []) }
+    ensures { result ≡ spec.store_without_keys name.now }
 {
     if name == b"caches".as_slice() {
         Some(Store::Caches(MachineAsked::NOTHING))
@@ -106,7 +102,7 @@ fn store_without_keys(name: &[u8]) -> Option<Store>
 }
 
 fn store_with_keys(name: &[u8], keys: &[u8]) -> Option<Store>
-    ensures { result ≡ spec.store_of (name.now ∷ keys.now ∷ []) }
+    ensures { result ≡ spec.store_with_keys name.now keys.now }
 {
     if name != b"caches".as_slice() {
         return None;
@@ -128,19 +124,71 @@ fn keys_read(asked: MachineAsked, keys: &[u8]) -> Option<MachineAsked>
     }
 }
 
-/// What a key with its number asks for beside what was asked.
+/// What a key with its value asks for beside what was asked.
 fn key_read(asked: MachineAsked, text: &[u8]) -> Option<MachineAsked>
     ensures { result ≡ spec.key_read asked (pieces 61 text.now) }
 {
     let (key, rest) = cut(text, b'=');
     let (word, more) = cut(rest?, b'=');
     match more {
-        None => with_key(asked, key, small_number(word)?),
+        None => with_value(asked, key, word),
         Some(more) => {
             let _third = cut(more, b'=');
             None
         }
     }
+}
+
+/// What is asked for with the value of a key, where the key has none yet.
+fn with_value(asked: MachineAsked, key: &[u8], word: &[u8]) -> Option<MachineAsked>
+    ensures { result ≡ spec.with_value asked key.now word.now }
+{
+    if key == b"apart".as_slice() {
+        with_apart(asked, apart_in(word)?)
+    } else {
+        with_key(asked, key, small_number(word)?)
+    }
+}
+
+/// What is asked for with these bytes apart, where none were.
+fn with_apart(asked: MachineAsked, apart: Apart) -> Option<MachineAsked>
+    ensures { result ≡ spec.with_apart asked apart }
+{
+    if asked.apart.is_some() {
+        return None;
+    }
+    let apart = Some(apart);
+    Some(MachineAsked { apart, ..asked })
+}
+
+/// The bytes apart that `ADDR:LENGTH:PIECE` writes.
+fn apart_in(text: &[u8]) -> Option<Apart>
+    ensures { result ≡ spec.apart_of (pieces 58 text.now) }
+{
+    let (address, rest) = cut(text, b':');
+    let (bytes, rest) = cut(rest?, b':');
+    let (each, more) = cut(rest?, b':');
+    match more {
+        None => apart_of(address, bytes, each),
+        Some(more) => {
+            let _fourth = cut(more, b':');
+            None
+        }
+    }
+}
+
+/// The bytes apart of these three words.
+fn apart_of(address: &[u8], bytes: &[u8], each: &[u8]) -> Option<Apart>
+    ensures { result ≡ spec.apart_of (address.now ∷ bytes.now ∷ each.now ∷ []) }
+{
+    let first = address_in(address)?;
+    let length = small_number(bytes)?;
+    let piece = small_number(each)?;
+    Some(Apart {
+        first,
+        length,
+        piece,
+    })
 }
 
 /// The number of 32 bits that a word writes.

@@ -1,7 +1,7 @@
 use Rattle.std.proofs.Common.{◌≡◌, drop}
 use Rattle.std.specs.List.{list_all}
-use Rattle.all_schedules.specs.Addresses.{is_lower_digit}
-use Rattle.all_schedules.proofs.addresses.are_lower_digits.Given as goal
+use Rattle.trace_commands.specs.Addresses.{is_lower_digit}
+use Rattle.trace_commands.proofs.address.are_lower_digits.Given as goal
 
 -- all are, if the others are
 abbrev pub invariant-loop-b : goal.invariant-loop-b
