@@ -14,12 +14,12 @@ use Rattle.rv32_exec.specs.NextEvent.{next_event}
 use Rattle.rv32_exec.specs.Arrival.{after_number}
 use Rattle.rv32_exec.specs.Sequential.{after_stop}
 use Rattle.rv32_exec.specs.Laws.{HasStopped}
-use Rattle.spec_history.specs.Conflict.{line_number}
+use Rattle.spec_history.specs.Conflict.{line_number, line_count}
 use Rattle.spec_history.specs.Searches.{count_below}
 use Rattle.spec_history.proofs.OneEntry.Accesses.{load_counts}
 use Rattle.dependences.specs.Paths.{LoadsAt, Stores, StoresAt, Touches}
 use Rattle.dependences.specs.Conflict.{AreFalling, IsInOrder, OverflowInOrder, StoresIn, first_beside, run_memory}
-use Rattle.dependences.specs.KeptLines.{AreLines, AreLinesNoted, IsLastOf, LastTwo, line_count, other_before}
+use Rattle.dependences.specs.KeptLines.{AreLines, AreLinesNoted, IsLastOf, LastTwo, other_before}
 use Rattle.dependences.specs.KeptTouches.{AreCounted, AreStoredIn, AreTouchesKept, IsStoredIn, OverflowsNone, Touched, TouchesIn, TouchesInLine, is_stored, overflows}
 use Rattle.dependences.proofs.Paths.{IsAt, access_stops, at_start, covered, either, load_after, loads_there, past_load, past_store, path_stores, same_store, start_after, store_after, stores_there}
 use Rattle.dependences.proofs.Windows.{count_last, count_more, count_most}

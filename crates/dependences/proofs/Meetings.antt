@@ -1,7 +1,6 @@
 -- What meets in a violation: on their paths, a conflict of the two epochs, or more lines than a buffer takes.
-use Rattle.std.proofs.Common.{◌≡◌, ◌≢◌, ◌⊎◌, ℕ, zero, suc, ◌+◌, ◌*◌, ◌/◌, ◌<◌, ◌==◌, ◌&&◌, not, nat_le, nat_lt, Bool, true, false, cond, is_some, List, [], ◌∷◌, length, All, Option, Some, None, unwrap_or, refl, sym, ap, ◌∙◌, inl, inr, true≢false, arith, eq-eqb, leb-true}
+use Rattle.std.proofs.Common.{◌≡◌, ◌≢◌, ◌⊎◌, ℕ, zero, suc, ◌+◌, ◌<◌, ◌==◌, ◌&&◌, not, nat_le, nat_lt, Bool, true, false, cond, is_some, List, [], ◌∷◌, length, All, Option, Some, None, unwrap_or, refl, sym, ap, ◌∙◌, inl, inr, true≢false, arith, eq-eqb, leb-true}
 use Rattle.std.proofs.lemmas.Bool.{and_parts, cases_Bool}
-use Rattle.std.proofs.lemmas.Nat.{div-mul-add}
 use Rattle.rv32_image.specs.Image.{LoadedImage}
 use Rattle.memory_bytes.specs.Bytes.{IsWidth}
 use Rattle.memory_bytes.specs.Maps.{over}
@@ -16,9 +15,10 @@ use Rattle.spec_history.specs.declared.kind.Kind.TheVariants.{TrueSharing, Silen
 use Rattle.spec_history.specs.FlatState.{CoreState, FlatState}
 use Rattle.spec_history.specs.Refusal.{any_below}
 use Rattle.spec_history.specs.Searches.{count_below}
-use Rattle.spec_history.specs.Conflict.{Meeting, holds_line, is_beside, is_changed, is_crowded, is_full_at, is_shared, kind_with, line_has, line_number, meeting, own_bytes, read_bytes, written}
+use Rattle.spec_history.specs.Conflict.{Meeting, holds_line, is_beside, is_changed, is_crowded, is_full_at, is_shared, kind_with, line_count, line_has, line_number, meeting, own_bytes, read_bytes, written}
 use Rattle.spec_history.proofs.OneEntry.Legal.{some_below}
 use Rattle.spec_history.proofs.OneEntry.Going.{Going}
+use Rattle.spec_history.proofs.Searches.Lines.{passing_byte}
 use Rattle.dependences.specs.Conflict.{AreBeside, AreFalling, Conflict, LineConflict, Overflow, PathReads, PathStores, PathTouches, StoresIn, path_memory}
 use Rattle.homefree.specs.Caused.{commits_bytes}
 use Rattle.dependences.proofs.Paths.{IsAt, covered, loads_there, stores_there}
@@ -125,9 +125,8 @@ some_width width (inr (inr e)) = omega (arith, e)
 -- a byte of a line
 line_byte : (image : LoadedImage) (line : ℕ) (test : ℕ → Bool) → line_has image line test ≡ true → (a : ℕ) × (line_number image a ≡ line) × (test a ≡ true)
 line_byte image line test is =
-    let long = image.machine.line_length in
-    let found = some_below long (λ x. test (line * long + x)) is in
-    (line * long + found.0, div-mul-add line long found.0 found.1, found.2)
+    let found = passing_byte image line test is in
+    (found.at, found.in_line, found.passes)
 
 module _ (image : LoadedImage) (cores : ℕ) (s : FlatState) (going : Going image cores s) (window : IsInWindow cores s) (orderly : IsOrderly image cores s)
     (by k : ℕ) (c v : CoreState) (causer : s.cores by ≡ Some c) (victim : s.cores k ≡ Some v) (before : c.epoch < v.epoch) where
@@ -289,18 +288,17 @@ module _ (image : LoadedImage) (cores : ℕ) (s : FlatState) (going : Going imag
       → is_full_at image (meeting s by what k) (line_number image touched) ≡ true → Overflow image cores
   full_overflow what touched touches is =
       let line = line_number image touched in
-      let machine = image.machine in
       let test : ℕ → Bool = other_line image cores s going window orderly by k c v causer victim before what line in
-      let parts = and_parts (holds_line image (meeting s by what k) line) (nat_le machine.buffer_lines (count_below (image.size / machine.line_length) test)) is in
+      let parts = and_parts (holds_line image (meeting s by what k) line) (nat_le image.machine.buffer_lines (count_below (line_count image) test)) is in
       let most = leb-true _ _ parts.1 in
       let lines = passing (λ other. (other ≢ line) × StoresIn image v.epoch (path_memory image cores v.epoch) other) test
-      (other_path image cores s going window orderly by k c v causer victim before what line) (image.size / machine.line_length) in
+      (other_path image cores s going window orderly by k c v causer victim before what line) (line_count image) in
       let long = lines.long in record {
         earlier = c.epoch;
         later = v.epoch;
         touched = touched;
         others = lines.list;
-        lines = image.size / machine.line_length;
+        lines = line_count image;
         beside = two_beside image cores s going window orderly by k c v causer victim before;
         touches = touches;
         stores = holds_path image cores s going window orderly by k c v causer victim before line what parts.0;

@@ -1,7 +1,7 @@
 -- What the code keeps of the lines of the caches: who did something in each last, and who stored in each.
-use Rattle.std.specs.Prelude.{◌≡◌, ◌≢◌, ℕ, zero, suc, ◌+◌, ◌/◌, ◌==◌, ◌<◌, ◌≤◌, List, length, slice_index, if◌then◌else◌}
+use Rattle.std.specs.Prelude.{◌≡◌, ◌≢◌, ℕ, zero, suc, ◌+◌, ◌==◌, ◌<◌, ◌≤◌, List, length, slice_index, if◌then◌else◌}
 use Rattle.rv32_image.specs.Image.{LoadedImage}
-use Rattle.spec_history.specs.Conflict.{line_number}
+use Rattle.spec_history.specs.Conflict.{line_number, line_count}
 use Rattle.dependences.specs.Paths.{ReadsOutside}
 use Rattle.dependences.specs.Conflict.{StoresIn, first_beside, run_memory}
 use Rattle.dependences.specs.Kept.{IsMarked}
@@ -28,10 +28,6 @@ pub record Lines : Type 0 where
 -- the last epoch that did so in the line, and 1, this one aside
 abbrev pub other_before : LastTwo → ℕ → ℕ → ℕ
 other_before s epoch line = if slice_index s.last line == epoch + 1 then slice_index s.before line else slice_index s.last line
-
--- memory has so many lines of this version
-abbrev pub line_count : LoadedImage → ℕ
-line_count image = image.size / image.machine.line_length
 
 pub record AreLines (image : LoadedImage) (s : LastTwo) : Type 0 where
   pub last : length s.last ≡ line_count image

@@ -1,13 +1,13 @@
 -- What the code keeps of the lines that epochs touch, and of those that this one stores in; and what is found over caches.
 use Rattle.std.specs.Prelude.{◌≡◌, ◌≢◌, ℕ, ◌+◌, ◌==◌, ◌<◌, ◌≤◌, Bool, true, false, List, length, Option, Some, None, nat_lt, ◌&&◌, slice_index}
 use Rattle.rv32_image.specs.Image.{LoadedImage}
-use Rattle.spec_history.specs.Conflict.{line_number}
+use Rattle.spec_history.specs.Conflict.{line_number, line_count}
 use Rattle.spec_history.specs.Searches.{count_below}
 use Rattle.dependences.specs.declared.caches.CacheConflict.{CacheConflict}
 use Rattle.dependences.specs.declared.caches.CacheConflict.TheVariants as found
 use Rattle.dependences.specs.Paths.{Touches}
 use Rattle.dependences.specs.Conflict.{LineConflictInOrder, OverflowInOrder, run_memory}
-use Rattle.dependences.specs.KeptLines.{AreLines, IsLastOf, LastTwo, MeetsNone, line_count, other_before}
+use Rattle.dependences.specs.KeptLines.{AreLines, IsLastOf, LastTwo, MeetsNone, other_before}
 
 -- the epoch loads or stores in this line
 pub record TouchesIn (image : LoadedImage) (epoch : ℕ) (memory : List ℕ) (line : ℕ) : Type 0 where

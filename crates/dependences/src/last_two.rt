@@ -1,6 +1,6 @@
 ghost use Rattle.std.specs.Prelude.{◌≡◌, ℕ, ◌+◌, ◌<◌, ◌≤◌, ◌^◌, IfOk, length, slice_index};
 ghost use Rattle.rv32_image.specs.Image.{IsImage};
-ghost use Rattle.spec_history.specs.Conflict.{line_number};
+ghost use Rattle.spec_history.specs.Conflict.{line_number, line_count};
 ghost use Rattle.dependences.specs.KeptLines as spec;
 
 use rv32_exec::NoMemory;
@@ -10,10 +10,11 @@ use std::marker::Model;
 
 /// The number of the line of the caches in which a byte lies.
 pub(crate) fn line_of(image: &Image, addr: u32) -> u32
+    requires { addr ≤ image.now.size }
     ensures line { result ≡ line_number image.now addr }
-    ensures inside { addr < image.now.size → result < spec.line_count image.now }
+    ensures inside { addr < image.now.size → result < line_count image.now }
 {
-    addr / image.machine().line_length
+    image.place(addr) / image.machine().line_length
 }
 
 /// Of each line the last epoch that did something in it, and 1, and the last before that one. 0 for none.

@@ -1,6 +1,7 @@
 ghost use Rattle.std.specs.Prelude.{◌≡◌, false, ℕ, ◌+◌, ◌<◌, ◌≤◌, ◌^◌, IfOk, length, slice_index};
 ghost use Rattle.rv32_image.specs.Image.{IsImage};
-ghost use Rattle.dependences.specs.KeptLines.{AreLines, AreLinesNoted, line_count};
+ghost use Rattle.spec_history.specs.Conflict.{line_count};
+ghost use Rattle.dependences.specs.KeptLines.{AreLines, AreLinesNoted};
 ghost use Rattle.dependences.specs.KeptTouches as spec;
 
 use crate::last_two::{LastTwo, line_of};
