@@ -16,24 +16,24 @@ use Rattle.cache_lines.specs.declared.line.Line.{Line}
 use Rattle.cache_lines.specs.Lines.{Contents, Geometry, geometry_of, invalid_line}
 use Rattle.rv32_image.specs.declared.machine.Machine.{Machine}
 use Rattle.rv32_image.specs.Machine.{is_line_length, IsMachine}
-use Rattle.rv32_image.proofs.Bounds.{place_in}
+use Rattle.rv32_image.specs.Places.{of_places, place}
 use Rattle.cache_lines.specs.Lines as lines
 use Rattle.cache_lines.specs.Protocol.{copy_or_none, copy_at}
 use Rattle.cache_lines.proofs.LineLaws.{is_copy_of-true, by_way, row-lt, sets-within}
 use Rattle.bus_states.specs.Coherent.{IsCoherent}
-use Rattle.bus_states.proofs.Addresses.{line-aligned, line-and_offset}
 use Rattle.spec_bus.specs.declared.bus_core.Core.{Core}
-use Rattle.spec_bus.specs.Cached.{CachedView, bus, line_of_core, store_view}
+use Rattle.spec_bus.specs.Cached.{CachedView, bus, line_of_core, machine_of, store_view}
 use Rattle.spec_bus.specs.Parts.{state_or_none}
 use Rattle.turn_steps.specs.Caches.{AreHeld, AreShown, AreWhole, HasOwnRows, HasRowsOf, Held, held, line_at, lines_below, no_line, place_count}
+use Rattle.turn_steps.specs.Rows.{row_count}
 
 -- one way more
-pub own_more : (size : ℕ) (ways : List Line) (i : ℕ) (old new : BTreeSet ℕ) → HasRowsOf old new
-    → ((place : ℕ) → place < i → HasOwnRows size (slice_index_or ways place no_line) old) → HasOwnRows size (slice_index_or ways i no_line) new
-    → (place : ℕ) → place < i + 1 → HasOwnRows size (slice_index_or ways place no_line) new
-own_more size ways i old new kept own one place below = elim (cases_eq place i) [
-  | inl here ↦ subst (λ (p : ℕ). HasOwnRows size (slice_index_or ways p no_line) new) (sym here) one
-  | inr other ↦ λ allowed aligned x inside stored. kept (((slice_index_or ways place no_line).addr + x) / 16) (own place (omega (arith, below, other)) allowed aligned x inside stored)
+pub own_more : (machine : Machine) (size : ℕ) (ways : List Line) (i : ℕ) (old new : BTreeSet ℕ) → HasRowsOf old new
+    → ((place : ℕ) → place < i → HasOwnRows machine size (slice_index_or ways place no_line) old) → HasOwnRows machine size (slice_index_or ways i no_line) new
+    → (place : ℕ) → place < i + 1 → HasOwnRows machine size (slice_index_or ways place no_line) new
+own_more machine size ways i old new kept own one place below = elim (cases_eq place i) [
+  | inl here ↦ subst (λ (p : ℕ). HasOwnRows machine size (slice_index_or ways p no_line) new) (sym here) one
+  | inr other ↦ λ a inside lies stored. kept (a / 16) (own place (omega (arith, below, other)) a inside lies stored)
 ]
 
 -- ---- a stored byte of a core on the bus lies in one of its ways
@@ -88,36 +88,44 @@ at_place machine v core (suc count) place below =
           ∙ at_place machine v core count place (omega (arith, below, other))
     ]
 
-module _ (machine : Machine) (v : CachedView) (core a : ℕ) (rows : BTreeSet ℕ) (allowed : IsMachine machine) (machine_is : machine ≡ (bus v).shape.machine)
-    (coherent : IsCoherent (bus v))
-    (own : (place : ℕ) → place < place_count machine → HasOwnRows machine.line_length (slice_index_or (held machine v core).ways place no_line) rows) where
+-- the machine of places is that of the bus
+pub places_allowed : (machine : Machine) → IsMachine machine → IsMachine (of_places machine)
+places_allowed machine is = record {
+  line_length = is.line_length;
+  sets = is.sets;
+  some_way = is.some_way;
+  few_ways = is.few_ways;
+  some_line = is.some_line;
+  few_lines = is.few_lines;
+}
+
+pub places_machine : (machine : Machine) (v : CachedView) → machine ≡ machine_of v → IsCoherent (bus v) → of_places machine ≡ (bus v).shape.machine
+places_machine machine v is coherent = ap of_places is ∙ (λ i. record v.machine { apart = sym coherent.of_places i })
+
+module _ (image_machine : Machine) (image_size : ℕ) (v : CachedView) (core a : ℕ) (rows : BTreeSet ℕ) (allowed : IsMachine image_machine)
+    (machine_is : of_places image_machine ≡ (bus v).shape.machine) (coherent : IsCoherent (bus v)) (inside : a < image_size)
+    (own : (place : ℕ) → place < place_count image_machine → HasOwnRows image_machine image_size (slice_index_or (held (of_places image_machine) v core).ways place no_line) rows) where
+  abbrev machine : Machine
+  machine = of_places image_machine
+
   abbrev size : ℕ
-  size = machine.line_length
+  size = image_machine.line_length
 
-  inside : a % size < size
-  inside = place_in size a allowed.line_length
+  -- where the byte lies
+  abbrev at : ℕ
+  at = place image_machine image_size a
 
-  whole : size * (a / size) + a % size ≡ a
-  whole = line-and_offset size a allowed.line_length
-
-  aligned : size * (a / size) % size ≡ 0
-  aligned = line-aligned size a allowed.line_length
-
-  in_place : (place : ℕ) → place < place_count machine → (line_at machine v core place).addr ≡ size * (a / size)
-      → has (line_at machine v core place).marks.bytes (a % size) ≡ true → contains nat_cmp rows (a / 16) ≡ true
-  in_place place below at stored =
+  in_place : (place : ℕ) → place < place_count machine → (line_at machine v core place).addr ≡ size * (at / size)
+      → has (line_at machine v core place).marks.bytes (at % size) ≡ true → contains nat_cmp rows (a / 16) ≡ true
+  in_place place below is stored =
       let here = at_place machine v core (place_count machine) place below in
-      let line = slice_index_or (held machine v core).ways place no_line in
-      let addr_is : line.addr ≡ size * (a / size) = ap (λ (l : Line). l.addr) here ∙ at in
-      let row_is : (line.addr + a % size) / 16 ≡ a / 16 = ap (λ n. (n + a % size) / 16) addr_is ∙ ap (λ n. n / 16) whole in
-      ap (contains nat_cmp rows) (sym row_is)
-      ∙ own place below allowed.line_length (ap (λ n. n % size) addr_is ∙ aligned) (a % size) inside (ap (λ (l : Line). has l.marks.bytes (a % size)) here ∙ stored)
+      own place below a inside (sym (ap (λ (l : Line). l.addr) here ∙ is)) (ap (λ (l : Line). has l.marks.bytes (at % size)) here ∙ stored)
 
-  of_core : (o : Option Core) → slice_get v.cores core ≡ o → has ((state_or_none o).copy (size * (a / size))).marks.bytes (a % size) ≡ true → contains nat_cmp rows (a / 16) ≡ true
-  of_core None is stored = absurd (true≢false (sym stored ∙ has-zero (a % size)))
+  of_core : (o : Option Core) → slice_get v.cores core ≡ o → has ((state_or_none o).copy (size * (at / size))).marks.bytes (at % size) ≡ true → contains nat_cmp rows (a / 16) ≡ true
+  of_core None is stored = absurd (true≢false (sym stored ∙ has-zero (at % size)))
   of_core (Some c) is stored =
-      let addr = size * (a / size) in
-      let found = in_a_way c.cache addr (a % size) stored in
+      let addr = size * (at / size) in
+      let found = in_a_way c.cache addr (at % size) stored in
       let below : core < length v.cores = slice_get_within v.cores core c is in
       let length_is : c.cache.line_length ≡ size =
       ap (λ (o : Option Core). (state_or_none o).line_length) (sym is) ∙ (coherent.lengths core below ∙ (coherent.length_of ∙ ap (λ (m : Machine). m.line_length) (sym machine_is))) in
@@ -139,13 +147,13 @@ module _ (machine : Machine) (v : CachedView) (core a : ℕ) (rows : BTreeSet �
       ∙ (ap (λ g. standing c.cache size g (place / machine.ways * size) (place % machine.ways)) (sym geometry_is)
       ∙ (ap (λ n. standing c.cache n c.cache.geometry (place / machine.ways * size) (place % machine.ways)) (sym length_is)
       ∙ ap (λ (o : Option Core). line_of_core o (place / machine.ways * size) (place % machine.ways)) (sym is)))))) in
-      in_place place within (ap (λ (l : Line). l.addr) (sym same) ∙ found.2) (ap (λ (l : Line). has l.marks.bytes (a % size)) (sym same) ∙ found.3)
+      in_place place within (ap (λ (l : Line). l.addr) (sym same) ∙ found.2) (ap (λ (l : Line). has l.marks.bytes (at % size)) (sym same) ∙ found.3)
     where
       positive : (n : ℕ) → is_line_length n ≡ true → 0 < n
       positive n is = grind (arith, nat_tests)
 
   -- the set has the row of a byte that the core has stored
-  pub has_own_row : has ((state_or_none (slice_get v.cores core)).copy (size * (a / size))).marks.bytes (a % size) ≡ true → contains nat_cmp rows (a / 16) ≡ true
+  pub has_own_row : has ((state_or_none (slice_get v.cores core)).copy (size * (at / size))).marks.bytes (at % size) ≡ true → contains nat_cmp rows (a / 16) ≡ true
   has_own_row stored = of_core (slice_get v.cores core) refl stored
 
 -- ---- what was shown of a core
@@ -158,19 +166,22 @@ are_whole machine v count shown are k h there =
     let below : k < count = subst (λ n. k < n) are.count_is (slice_get_within shown k h there) in
     held_whole machine v k h (one_value (slice_get shown k) h (held machine v k) there (are.each k below))
 
-module _ (machine : Machine) (v : CachedView) (core : ℕ) (shown : List Held) (rows : BTreeSet ℕ) (are : AreShown machine shown v) where
+module _ (machine : Machine) (size : ℕ) (v : CachedView) (core : ℕ) (shown : List Held) (rows : BTreeSet ℕ) (are : AreShown machine size shown v) where
   -- this was shown of the core
-  pub has_row : (was : Held) → slice_get shown core ≡ Some was → ((place : ℕ) → place < length was.ways → HasOwnRows machine.line_length (slice_index_or was.ways place no_line) rows)
-      → (a : ℕ) → (store_view v).own core a ≡ true → contains nat_cmp rows (a / 16) ≡ true
-  has_row was there own a stored =
+  pub has_row : (was : Held) → slice_get shown core ≡ Some was → ((place : ℕ) → place < length was.ways → HasOwnRows machine size (slice_index_or was.ways place no_line) rows)
+      → (a : ℕ) → a / 16 < row_count (store_view v) → (store_view v).own core a ≡ true → contains nat_cmp rows (a / 16) ≡ true
+  has_row was there own a inside stored =
       let below : core < (bus v).shape.cores = subst (λ n. core < n) are.cores_are.count_is (slice_get_within shown core was there) in
-      let is : was ≡ held machine v core = one_value (slice_get shown core) was (held machine v core) there (are.cores_are.each core below) in
-      let long : length was.ways ≡ place_count machine = held_whole machine v core was is in
-      has_own_row machine v core a rows are.allowed are.machine_is are.coherent
-      (subst (λ (h : Held). (place : ℕ) → place < place_count machine → HasOwnRows machine.line_length (slice_index_or h.ways place no_line) rows) is
+      let is : was ≡ held (of_places machine) v core = one_value (slice_get shown core) was (held (of_places machine) v core) there (are.cores_are.each core below) in
+      let long : length was.ways ≡ place_count machine = held_whole (of_places machine) v core was is in
+      let machine_is : of_places machine ≡ (bus v).shape.machine = places_machine machine v are.machine_is are.coherent in
+      has_own_row machine size v core a rows are.allowed.is machine_is are.coherent (omega (arith, inside, are.size_is))
+      (subst (λ (h : Held). (place : ℕ) → place < place_count machine → HasOwnRows machine size (slice_index_or h.ways place no_line) rows) is
       (λ place within. own place (omega (arith, within, long))))
-      (subst (λ n. has ((state_or_none (slice_get v.cores core)).copy (n * (a / n))).marks.bytes (a % n) ≡ true)
-      (are.coherent.length_of ∙ ap (λ (m : Machine). m.line_length) (sym are.machine_is)) stored)
+      (subst (λ p. has ((state_or_none (slice_get v.cores core)).copy (machine.line_length * (p / machine.line_length))).marks.bytes (p % machine.line_length) ≡ true)
+      (λ i. place (sym are.machine_is i) (sym are.size_is i) a)
+      (subst (λ n. has ((state_or_none (slice_get v.cores core)).copy (n * (place (machine_of v) v.size a / n))).marks.bytes (place (machine_of v) v.size a % n) ≡ true)
+      (are.coherent.length_of ∙ ap (λ (m : Machine). m.line_length) (sym machine_is)) stored))
 
   same_none : (xs : List Held) (ys : List Core) (k : ℕ) → length xs ≡ length ys → slice_get xs k ≡ None → slice_get ys k ≡ None
   same_none [] [] k same none = refl
@@ -184,6 +195,7 @@ module _ (machine : Machine) (v : CachedView) (core : ℕ) (shown : List Held) (
   has_no_row none a stored =
       let absent = same_none shown v.cores core are.cores_are.count_is none in
       let line = (bus v).line_length in
-      let gone : has ((state_or_none (slice_get v.cores core)).copy (line * (a / line))).marks.bytes (a % line) ≡ false =
-      ap (λ (o : Option Core). has ((state_or_none o).copy (line * (a / line))).marks.bytes (a % line)) absent ∙ has-zero (a % line) in
+      let at = place (machine_of v) v.size a in
+      let gone : has ((state_or_none (slice_get v.cores core)).copy (line * (at / line))).marks.bytes (at % line) ≡ false =
+      ap (λ (o : Option Core). has ((state_or_none o).copy (line * (at / line))).marks.bytes (at % line)) absent ∙ has-zero (at % line) in
       absurd (true≢false (sym stored ∙ gone))

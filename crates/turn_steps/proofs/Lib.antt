@@ -7,6 +7,7 @@ pub mod Shown
 pub mod Keeping
 pub mod Owning
 pub mod PlainCores
+pub mod Near
 pub mod Lines
 pub mod Sparing
 pub mod Leaving

@@ -1,9 +1,11 @@
--- Where an access lies: in one row, and with its line in 64 aligned bytes.
+-- Where an access lies: in one row, and with its line near it.
 use Rattle.std.proofs.Common.{◌≡◌, ◌≢◌, ℕ, ◌+◌, ◌*◌, ◌/◌, ◌%◌, ◌<◌, ◌≤◌, ◌==◌, Bool, true, false, nat_le, nat_lt, inl, inr, refl, sym, ap, subst, ◌∙◌, arith}
-use Rattle.std.proofs.lemmas.Bool.{cases_Bool, and_parts, ltb-true, leb-true, eqb-false}
+use Rattle.std.proofs.lemmas.Bool.{cases_Bool, and_parts, ltb-true, leb-true}
+use Rattle.std.proofs.lemmas.Bool.Decides.{nat_tests}
 use Rattle.rv32_image.specs.Image.{LoadedImage}
 use Rattle.rv32_image.specs.Machine.{IsMachineFor}
-use Rattle.rv32_image.proofs.Bounds.{same_block}
+use Rattle.rv32_image.specs.Places.{place}
+use Rattle.rv32_image.proofs.Bounds.{same_number}
 use Rattle.memory_bytes.specs.Bytes.{IsWidth}
 use Rattle.memory_bytes.specs.Maps.{over, stored}
 use Rattle.rv32_exec.specs.declared.stop.Stop.TheVariants as stop
@@ -13,6 +15,8 @@ use Rattle.rv32_exec.specs.NextEvent.{next_event}
 use Rattle.rv32_exec.proofs.Accesses.{stop_of_event}
 use Rattle.violations.specs.Rule.{shape_of}
 use Rattle.violations.specs.View.{Shape, line_of, is_accessed}
+use Rattle.turn_steps.specs.Laws.{is_near}
+use Rattle.turn_steps.proofs.Near.{near}
 
 -- ---- accesses
 
@@ -66,26 +70,27 @@ pub unstored : (address width value : ℕ) (memory : ℕ → ℕ) (a : ℕ) → 
 unfolding stored
 unstored address width value memory a isnt = rw isnt refl
 
--- ---- blocks of four rows
-
-pub block_of_row : (row i : ℕ) → i < 16 → (16 * row + i) / 64 ≡ row / 4
-block_of_row row i below = omega arith
+-- ---- rows that are near
 
 pub row_of_byte : (row i : ℕ) → i < 16 → (16 * row + i) / 16 ≡ row
 row_of_byte row i below = omega arith
 
-pub block_by_row : (a b : ℕ) → a / 16 ≡ b / 16 → a / 64 ≡ b / 64
-block_by_row a b same = omega arith
+-- bytes of one line lie near one another
+pub near_in_line : (image : LoadedImage) (count : ℕ) (shape : Shape) (a b : ℕ) → IsMachineFor image.size image.machine → shape ≡ shape_of image count
+    → line_of shape a ≡ line_of shape b → a < b + 64
+near_in_line image count shape a b fits is same =
+    near image.machine image.size fits a b
+    (same_number image.machine.line_length (place image.machine image.size a) (place image.machine image.size b) fits.is.line_length
+    (ap (λ (s : Shape). line_of s a) (sym is) ∙ (same ∙ ap (λ (s : Shape). line_of s b) is)))
 
--- bytes of one line lie in the same 64 aligned bytes
-pub block_of_line : (image : LoadedImage) (count : ℕ) (shape : Shape) (a b : ℕ) → IsMachineFor image.size image.machine → shape ≡ shape_of image count
-    → line_of shape a ≡ line_of shape b → a / 64 ≡ b / 64
-block_of_line image count shape a b fits is same =
-    same_block image.machine.line_length a b fits.is.line_length (ap (λ (s : Shape). line_of s a) (sym is) ∙ (same ∙ ap (λ (s : Shape). line_of s b) is))
+-- so a byte of the access's row and one that isn't near it lie in different lines
+pub far_apart : (address at a : ℕ) → is_near (address / 16) (a / 16) ≡ false → at / 16 ≡ address / 16 → at < a + 64 → a < at + 64 → ⊥
+far_apart address at a isnt row one two = grind (arith, nat_tests)
+
+-- the byte of a row that isn't near
+pub far_byte : (address row i : ℕ) → i < 16 → is_near (address / 16) row ≡ false → is_near (address / 16) ((16 * row + i) / 16) ≡ false
+far_byte address row i below isnt = subst (λ r. is_near (address / 16) r ≡ false) (sym (row_of_byte row i below)) isnt
 
 -- the row is of other bytes than the access
-pub block_apart : (address row i : ℕ) → i < 16 → (address / 64 == row / 4) ≡ false → address / 64 ≢ (16 * row + i) / 64
-block_apart address row i below isnt same = eqb-false (address / 64) (row / 4) isnt (same ∙ block_of_row row i below)
-
-pub row_apart : (address row i : ℕ) → i < 16 → (address / 64 == row / 4) ≡ false → address / 16 ≢ (16 * row + i) / 16
-row_apart address row i below isnt same = block_apart address row i below isnt (block_by_row address (16 * row + i) same)
+pub row_apart : (address row i : ℕ) → i < 16 → is_near (address / 16) row ≡ false → address / 16 ≢ (16 * row + i) / 16
+row_apart address row i below isnt same = let here = row_of_byte row i below in grind (arith, nat_tests)

@@ -12,9 +12,9 @@ use Rattle.violations.specs.Rule.{IsSameCore, IsSpared, HurtsLater, Loads, Store
 use Rattle.homefree.specs.Agrees.{AgreesCore, Agrees}
 use Rattle.homefree.specs.Turned.{publishes_unless}
 use Rattle.turn_steps.specs.Rows.{IsSameRow}
-use Rattle.turn_steps.specs.Laws.{touches_in}
+use Rattle.turn_steps.specs.Laws.{is_near, touches_in}
 use Rattle.spec_history.specs.declared.entry.What.TheVariants.{Load, Store}
-use Rattle.turn_steps.proofs.Lines.{IsAligned, in_row, in_no_other, unstored, block_by_row, block_of_line, block_apart, row_apart}
+use Rattle.turn_steps.proofs.Lines.{IsAligned, in_row, in_no_other, unstored, near_in_line, far_apart, far_byte, row_apart}
 
 -- ---- who runs speculatively
 
@@ -105,14 +105,15 @@ sees_committed s v core c a agrees mine isnt = mine.sees a ∙ (unwrap_none (c.o
 -- ---- the core's own accesses
 
 module _ (image : LoadedImage) (count : ℕ) (v w : StoreView) (core address width value : ℕ) (hurt : ℕ → Bool) (fits : IsMachineFor image.size image.machine) (shape : v.shape ≡ shape_of image count) (access : IsAligned address width) where
-  still_unguarded : Loads v w core address width value hurt → (a : ℕ) → address / 64 ≢ a / 64 → v.guarded core a ≡ false → w.guarded core a ≡ false
+  still_unguarded : Loads v w core address width value hurt → (a : ℕ) → is_near (address / 16) (a / 16) ≡ false → v.guarded core a ≡ false → w.guarded core a ≡ false
   still_unguarded l a other isnt = elim (cases_Bool (w.guarded core a)) [
     | inl now ↦ let takes = l.guards_only a now isnt in
-        absurd (other (sym (block_by_row takes.at address (in_row address width takes.at access takes.accessed)) ∙ block_of_line image count v.shape takes.at a fits shape takes.in_line))
+        absurd (far_apart address takes.at a other (in_row address width takes.at access takes.accessed)
+        (near_in_line image count v.shape takes.at a fits shape takes.in_line) (near_in_line image count v.shape a takes.at fits shape (sym takes.in_line)))
     | inr none ↦ none
   ]
 
-  same_guard : Loads v w core address width value hurt → (a : ℕ) → address / 64 ≢ a / 64 → w.guarded core a ≡ v.guarded core a
+  same_guard : Loads v w core address width value hurt → (a : ℕ) → is_near (address / 16) (a / 16) ≡ false → w.guarded core a ≡ v.guarded core a
   same_guard l a other = elim (cases_Bool (v.guarded core a)) [
     | inl had ↦ l.guards_still a had ∙ sym had
     | inr isnt ↦ still_unguarded l a other isnt ∙ sym isnt
@@ -120,7 +121,7 @@ module _ (image : LoadedImage) (count : ℕ) (v w : StoreView) (core address wid
 
   pub load_row : Loads v w core address width value hurt → (row : ℕ) → touches_in row (Load address width value) ≡ false → IsSameRow v w core row
   load_row l row isnt = record {
-    guarded = λ i below. same_guard l (16 * row + i) (block_apart address row i below isnt);
+    guarded = λ i below. same_guard l (16 * row + i) (far_byte address row i below isnt);
     own = λ i below. l.own (16 * row + i);
     sees = λ i below own. l.sees (16 * row + i);
   }

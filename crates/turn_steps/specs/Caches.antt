@@ -1,12 +1,14 @@
 -- What a core on the bus holds: its cache way by way, and its buffer; and the text of what of it changed.
 -- Source: this project.
-use Rattle.std.specs.Prelude.{◌≡◌, ℕ, zero, suc, ◌+◌, ◌*◌, ◌/◌, ◌%◌, ◌==◌, ◌&&◌, ◌<◌, Bool, true, false, List, [], ◌∷◌, ◌++◌, length, slice_get, IsTrue, Option, Some, None, option_map, if◌then◌else◌}
+use Rattle.std.specs.Prelude.{◌≡◌, ℕ, zero, suc, ◌+◌, ◌-◌, ◌*◌, ◌/◌, ◌%◌, ◌==◌, ◌&&◌, ◌<◌, ◌≤◌, nat_le, Bool, true, false, List, [], ◌∷◌, ◌++◌, length, slice_get, Option, Some, None, option_map, if◌then◌else◌}
 use Rattle.std.specs.List.{find, range_with_len, slice_index_or}
 use Rattle.std.specs.BTreeSet.{BTreeSet, contains}
 use Rattle.std.specs.Ordering.{nat_cmp}
 use Rattle.cache_lines.specs.declared.line.Line.{Line}
+use Rattle.rv32_image.specs.declared.apart.Apart.{Apart}
 use Rattle.rv32_image.specs.declared.machine.Machine.{Machine}
-use Rattle.rv32_image.specs.Machine.{is_line_length, IsMachine}
+use Rattle.rv32_image.specs.Machine.{IsMachineFor}
+use Rattle.rv32_image.specs.Places.{of_places, place}
 use Rattle.spec_states.specs.declared.line.LineState.TheVariants.{I}
 use Rattle.spec_states.specs.Mask.{has}
 use Rattle.spec_states.specs.States.{is_valid}
@@ -15,7 +17,7 @@ use Rattle.cache_lines.specs.Protocol.{copy_of_line}
 use Rattle.violations.specs.View.{Shape}
 use Rattle.bus_states.specs.Bus.{Bus}
 use Rattle.bus_states.specs.Coherent.{IsCoherent}
-use Rattle.spec_bus.specs.Cached.{CachedView, bus, line_in}
+use Rattle.spec_bus.specs.Cached.{CachedView, bus, line_in, machine_of}
 use Rattle.spec_bus.specs.Laws.{IsPlacedCore}
 use Rattle.turn_steps.specs.Places.{Standing, changed, orb_line, way_changes}
 
@@ -102,18 +104,19 @@ pub record AreHeld (machine : Machine) (v : CachedView) (count : ℕ) (shown : L
 abbrev pub AreWhole : Machine → List Held → Type 0
 AreWhole machine shown = (k : ℕ) (h : Held) → slice_get shown k ≡ Some h → length h.ways ≡ place_count machine
 
--- this was shown of its cores, which are those of this machine
-pub record AreShown (machine : Machine) (shown : List Held) (v : CachedView) : Type 0 where
+-- this was shown of its cores, which are those of this machine and a memory of so many bytes
+pub record AreShown (machine : Machine) (size : ℕ) (shown : List Held) (v : CachedView) : Type 0 where
   pub coherent : IsCoherent (bus v)
-  pub allowed : IsMachine machine
-  pub machine_is : machine ≡ (bus v).shape.machine
-  pub cores_are : AreHeld machine v (bus v).shape.cores shown
+  pub allowed : IsMachineFor size machine
+  pub size_is : size ≡ v.size
+  pub machine_is : machine ≡ machine_of v
+  pub cores_are : AreHeld (of_places machine) v (bus v).shape.cores shown
 
 -- of each core of a store of this shape
-pub record IsOfShape (machine : Machine) (shown : List Held) (shape : Shape) : Type 0 where
+pub record IsOfShape (machine : Machine) (size : ℕ) (shown : List Held) (shape : Shape) : Type 0 where
   pub machine_is : machine ≡ shape.machine
-  pub allowed : IsMachine machine
-  pub whole : AreWhole machine shown
+  pub size_is : size ≡ shape.size
+  pub whole : AreWhole (of_places machine) shown
   pub count : length shown ≡ shape.cores
 
 -- the text of what so many cores hold otherwise in the second of two stores than in the first
@@ -126,6 +129,20 @@ cached_changes cores old now = bus_changes (bus old) (bus now) cores
 abbrev pub HasRowsOf : BTreeSet ℕ → BTreeSet ℕ → Type 0
 HasRowsOf old new = (row : ℕ) → contains nat_cmp old row ≡ true → contains nat_cmp new row ≡ true
 
--- it has the row of each stored byte of a line that lies at a multiple of this size
-abbrev pub HasOwnRows : ℕ → Line → BTreeSet ℕ → Type 0
-HasOwnRows size line rows = IsTrue (is_line_length size) → line.addr % size ≡ 0 → (x : ℕ) → x < size → has line.marks.bytes x ≡ true → contains nat_cmp rows ((line.addr + x) / 16) ≡ true
+-- the byte at this address lies in this line
+abbrev pub LiesIn : Machine → ℕ → ℕ → ℕ → Type 0
+LiesIn machine size a line = machine.line_length * (place machine size a / machine.line_length) ≡ line
+
+-- it has the row of each byte of memory that was stored in this line
+abbrev pub HasOwnRows : Machine → ℕ → Line → BTreeSet ℕ → Type 0
+HasOwnRows machine size line rows = (a : ℕ) → a < size → LiesIn machine size a line.addr
+    → has line.marks.bytes (place machine size a % machine.line_length) ≡ true → contains nat_cmp rows (a / 16) ≡ true
+
+-- the row of the first byte of the line at this place: behind memory that of a piece of bytes that lie apart
+abbrev pub first_row : Option Apart → ℕ → ℕ → ℕ → ℕ
+first_row None size long line = line / 16
+first_row (Some apart) size long line = if nat_le size line then (apart.first + (line - size) / long * apart.piece) / 16 else line / 16
+
+-- it has this row and the four behind it
+abbrev pub HasFiveRows : ℕ → BTreeSet ℕ → Type 0
+HasFiveRows first rows = (row : ℕ) → first ≤ row → row ≤ first + 4 → contains nat_cmp rows row ≡ true

@@ -1,6 +1,6 @@
 -- What one turn of a core can change of a store: the rows that its accesses name, and the bytes that it commits.
 -- Source: this project.
-use Rattle.std.specs.Prelude.{◌≡◌, ◌≢◌, ◌⊎◌, ℕ, ◌/◌, ◌==◌, ◌||◌, Bool, true, false, List, Some}
+use Rattle.std.specs.Prelude.{◌≡◌, ◌≢◌, ◌⊎◌, ℕ, ◌+◌, ◌/◌, ◌==◌, ◌&&◌, ◌||◌, nat_le, Bool, true, false, List, Some}
 use Rattle.std.specs.BTreeSet.{BTreeSet, contains}
 use Rattle.std.specs.List.{list_any}
 use Rattle.std.specs.Ordering.{nat_cmp}
@@ -11,10 +11,14 @@ use Rattle.violations.specs.declared.attempt.Attempt.{Attempt}
 use Rattle.violations.specs.View.{StoreView}
 use Rattle.turn_steps.specs.Rows.{IsSameRow}
 
--- it loads or stores in the 64 aligned bytes of the row; the line of the access lies in them
+-- the other row is this one, or one of the four before it or behind it: those have all bytes of the lines of its bytes
+abbrev pub is_near : ℕ → ℕ → Bool
+is_near row other = nat_le row (other + 4) && nat_le other (row + 4)
+
+-- it loads or stores near the row
 abbrev pub touches_in : ℕ → What → Bool
-touches_in row (Load address width value) = address / 64 == row / 4
-touches_in row (Store address width value) = address / 64 == row / 4
+touches_in row (Load address width value) = is_near (address / 16) row
+touches_in row (Store address width value) = is_near (address / 16) row
 touches_in row what = false
 
 abbrev pub touches : ℕ → Entry → Bool

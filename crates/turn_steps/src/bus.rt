@@ -1,6 +1,7 @@
 //! The caches and the buffers of all cores on the bus.
 ghost use Rattle.std.specs.Prelude.{◌≡◌, ◌<◌, ◌≤◌, ◌++◌, ℕ, IfOk, OnOk, length};
-ghost use Rattle.rv32_image.specs.Machine.{IsMachine};
+ghost use Rattle.rv32_image.specs.Machine.{IsMachine, IsMachineFor};
+ghost use Rattle.rv32_image.specs.Places.{of_places};
 ghost use Rattle.spec_bus.specs.Cached.{CachedView, bus};
 ghost use Rattle.turn_steps.specs.Caches as spec;
 
@@ -16,10 +17,13 @@ use violations::{Attempt, EpochStore};
 /// What the caches and the buffers on a bus were shown to hold.
 #[derive(Drop)]
 pub struct ShownBus {
-    /// The machine of which they are.
+    /// The image's machine.
     machine: Machine,
+    /// The bytes of memory.
+    size: u32,
     /// Core by core.
     cores: Vec<ShownCore>,
+    ghost allowed: { IsMachineFor size machine },
 }
 
 impl ShownStore for CachedBus {
@@ -27,9 +31,9 @@ impl ShownStore for CachedBus {
 
     type Shown = ShownBus;
 
-    ghost fits = { λ shown shape. IsOfShape shown.machine shown.cores.items shape };
+    ghost fits = { λ shown shape. IsOfShape shown.machine shown.size shown.cores.items shape };
 
-    ghost shows = { λ shown v. AreShown shown.machine shown.cores.items v };
+    ghost shows = { λ shown v. AreShown shown.machine shown.size shown.cores.items v };
 
     ghost changes = { cached_changes };
 
@@ -47,8 +51,12 @@ impl ShownStore for CachedBus {
     ) -> Result<ShownBus, AllocError> {
         self.look();
         let machine = image.machine();
-        let cores = shown_cores(alloc, self, machine, cores)?;
-        Ok(ShownBus { machine, cores })
+        let cores = shown_cores(alloc, self, of_places(machine), cores)?;
+        Ok(ShownBus {
+            machine,
+            size: image.size(),
+            cores,
+        })
     }
 
     fn push_changes(
@@ -64,7 +72,7 @@ impl ShownStore for CachedBus {
             alloc,
             text,
             self,
-            shown.machine,
+            of_places(shown.machine),
             self.cores(),
             shown.cores.as_slice(),
         )?;
@@ -78,9 +86,19 @@ impl ShownStore for CachedBus {
         rows: &mut BTreeSet<u32>,
     ) -> Result<(), AllocError> {
         match shown.cores.get(core as usize) {
-            Some(held) => held.push_own_rows(shown.machine.line_length, rows),
+            Some(held) => held.push_own_rows(shown.machine, shown.size, rows),
             None => Ok(()),
         }
+    }
+}
+
+/// The machine of the places, on which nothing lies apart.
+fn of_places(machine: Machine) -> Machine
+    ensures { result ≡ of_places machine }
+{
+    Machine {
+        apart: None,
+        ..machine
     }
 }
 

@@ -1,7 +1,7 @@
 //! The cache and the buffer of a core on the bus.
-ghost use Rattle.std.specs.Prelude.{◌≡◌, ◌++◌, ◌<◌, ◌≤◌, ℕ, length, IfOk, IsTrue, OnOk};
+ghost use Rattle.std.specs.Prelude.{◌≡◌, ◌+◌, ◌*◌, ◌/◌, ◌^◌, ◌++◌, ◌<◌, ◌≤◌, ℕ, length, IfOk, OnOk};
 ghost use Rattle.std.specs.List.{slice_index_or};
-ghost use Rattle.rv32_image.specs.Machine.{IsMachine};
+ghost use Rattle.rv32_image.specs.Machine.{IsMachine, IsMachineFor};
 ghost use Rattle.spec_bus.specs.Cached.{bus};
 ghost use Rattle.spec_bus.specs.Laws.{IsPlacedCore};
 ghost use Rattle.turn_steps.specs.Caches as spec;
@@ -11,7 +11,7 @@ use crate::orbs::push_orb_change;
 use crate::ways::{place_count, push_way_changes};
 use cache_lines::Line;
 use orb::Orb;
-use rv32_exec::Machine;
+use rv32_image::{Apart, Machine};
 use spec_bus::CachedBus;
 use std::alloc::{AllocError, Global};
 use std::collections::BTreeSet;
@@ -82,37 +82,82 @@ impl ShownCore {
         push_orb_change(alloc, text, core, self.orb.as_slice(), now.orb.as_slice())
     }
 
-    /// Puts into a set the rows of 16 bytes, counted from 0, in which a line at a multiple of this size has bytes that its core has stored;
-    /// others may be with them.
+    /// Puts into a set the rows of 16 bytes, counted from 0, of the bytes that the core has stored, of a memory of so many bytes on this
+    /// machine; others may be with them.
     ///
     /// `AllocError`: memory ran out. Some of the rows may be there.
-    pub fn push_own_rows(&self, size: u32, rows: &mut BTreeSet<u32>) -> Result<(), AllocError>
+    pub fn push_own_rows(
+        &self,
+        machine: Machine,
+        size: u32,
+        rows: &mut BTreeSet<u32>,
+    ) -> Result<(), AllocError>
+        requires { IsMachineFor size machine }
         ensures kept { OnOk result (spec.HasRowsOf rows.old rows.new) }
-        ensures own { OnOk result ((place : ℕ) → place < length self.now.ways → spec.HasOwnRows size (slice_index_or self.now.ways place no_line) rows.new) }
+        ensures own { OnOk result ((place : ℕ) → place < length self.now.ways
+            → spec.HasOwnRows machine size (slice_index_or self.now.ways place no_line) rows.new) }
     {
         for line in self.ways.as_slice() {
-            push_own_rows_of(size, line, rows)?;
+            push_own_rows_of(machine, size, line, rows)?;
         }
         Ok(())
     }
 }
 
 /// Puts the rows of a line in which bytes of it were stored into a set.
-fn push_own_rows_of(size: u32, line: &Line, rows: &mut BTreeSet<u32>) -> Result<(), AllocError>
+fn push_own_rows_of(
+    machine: Machine,
+    size: u32,
+    line: &Line,
+    rows: &mut BTreeSet<u32>,
+) -> Result<(), AllocError>
+    requires { IsMachineFor size machine }
     ensures kept { OnOk result (spec.HasRowsOf rows.old rows.new) }
-    ensures own { OnOk result (spec.HasOwnRows size line.now rows.new) }
+    ensures own { OnOk result (spec.HasOwnRows machine size line.now rows.new) }
 {
     if line.marks.bytes == 0 {
         return Ok(());
     }
-    let row = line.addr / 16;
-    rows.insert(row)?;
-    if size >= 32 {
-        rows.insert(row + 1)?;
+    push_five_rows(first_row(machine, size, line.addr), rows)
+}
+
+/// The row of the first byte that lies in the line at this place.
+fn first_row(machine: Machine, size: u32, line: u32) -> u32
+    requires { IsMachineFor size machine }
+    ensures row { result ≡ spec.first_row machine.apart size machine.line_length line }
+    ensures few { result < 2 ^ 31 }
+{
+    match machine.apart {
+        None => line / 16,
+        Some(apart) => {
+            if size <= line {
+                first_row_apart(apart, (line - size) / machine.line_length)
+            } else {
+                line / 16
+            }
+        }
     }
-    if size == 64 {
-        rows.insert(row + 2)?;
-        rows.insert(row + 3)?;
+}
+
+/// The row of the first byte of a piece of bytes that lie apart.
+fn first_row_apart(apart: Apart, number: u32) -> u32
+    requires few { number < 2 ^ 28 }
+    requires short { apart.piece ≤ 64 }
+    ensures few { result < 2 ^ 31 }
+    ensures row { result ≡ (apart.first + number * apart.piece) / 16 }
+{
+    let first = u64::from(apart.first) + u64::from(number) * u64::from(apart.piece);
+    (first / 16) as u32
+}
+
+/// Puts this row and the four behind it into a set.
+fn push_five_rows(first: u32, rows: &mut BTreeSet<u32>) -> Result<(), AllocError>
+    requires { first < 2 ^ 31 }
+    ensures kept { OnOk result (spec.HasRowsOf rows.old rows.new) }
+    ensures five { OnOk result (spec.HasFiveRows first rows.new) }
+{
+    for i in 0..5 {
+        rows.insert(first + i)?;
     }
     Ok(())
 }

@@ -24,7 +24,7 @@ fn is_commit(what: What) -> bool
     }
 }
 
-/// Adds the rows that the entries touch: those of the 32 aligned bytes at the address of each load and store.
+/// Adds the rows that the entries touch: of each load and store that of its address, with the four before it and the four behind it.
 ///
 /// `AllocError`: memory ran out. Some of the rows may be there.
 pub fn add_touched_rows(entries: &[Entry], rows: &mut BTreeSet<u32>) -> Result<(), AllocError>
@@ -41,20 +41,20 @@ fn add_touched(what: What, rows: &mut BTreeSet<u32>) -> Result<(), AllocError>
     ensures { OnOk result (spec.Adds rows.old rows.new (λ row. spec.touches_in row what)) }
 {
     match what {
-        What::Load { addr, .. } | What::Store { addr, .. } => add_block(addr / 64, rows),
+        What::Load { addr, .. } | What::Store { addr, .. } => add_near(addr / 16, rows),
         _ => Ok(()),
     }
 }
 
-/// Adds the four rows of 64 aligned bytes, which are counted from 0.
-fn add_block(block: u32, rows: &mut BTreeSet<u32>) -> Result<(), AllocError>
-    requires { block < 2 ^ 26 }
-    ensures { OnOk result (spec.Adds rows.old rows.new (λ row. block == row / 4)) }
+/// Adds the rows near this one.
+fn add_near(row: u32, rows: &mut BTreeSet<u32>) -> Result<(), AllocError>
+    requires { row < 2 ^ 28 }
+    ensures { OnOk result (spec.Adds rows.old rows.new (λ other. spec.is_near row other)) }
 {
-    add_row(4 * block, rows)?;
-    add_row(4 * block + 1, rows)?;
-    add_row(4 * block + 2, rows)?;
-    add_row(4 * block + 3, rows)
+    for near in row.saturating_sub(4)..row + 5 {
+        add_row(near, rows)?;
+    }
+    Ok(())
 }
 
 /// Adds the rows in which the entries store.
