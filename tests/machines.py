@@ -8,7 +8,8 @@ COMMAND is a command of `trace_cli` that ends with the word `seq`; `gain`, `repl
 built beside it. Without it those of this repository are tested. Where one isn't built the test is left out, and a line
 says so. Of each of N random loops, 60 without the word, over caches of a random size: the schedule of `replay even`
 makes the same history again, so does its trace, its report is that of `seq`, `audit` finds it legal, and `why` explains
-each violation; and of a schedule drawn from a seed the same. Exits with 1 where an outcome differs.
+each violation; and of a schedule drawn from a seed the same. In some of the caches bytes lie apart; `own_counters`,
+whose counters do, takes the steps of `padded_counters`. Exits with 1 where an outcome differs.
 """
 
 import argparse
@@ -28,6 +29,8 @@ from gain import wide  # noqa: E402
 from stress import loop_of  # noqa: E402
 
 KEYS = ("line", "sets", "ways", "buffer")
+# The four counters of own_counters, each in a line of its own
+COUNTERS_APART = "caches:apart=00000040:16:4"
 FIGURES = ("steps", "useful", "lost", "dropped", "waiting", "idle", "restarts")
 # An epoch that isn't homefree when its loop ends has no violation that isn't one of these.
 KINDS = "true silent false buffer".split()
@@ -69,6 +72,28 @@ def table(gain: Path) -> Iterator[Check]:
                    differs(same, {f"{cores} {store}": figures for cores, figures in wanted.items()}))
 
 
+# --- Bytes that lie apart ---------------------------------------------------------
+
+def of_each(figures: dict[str, list[str]]) -> dict[str, list[str]]:
+    """The figures by the cores alone."""
+    return {cores.partition(" ")[0]: one for cores, one in figures.items()}
+
+
+def lying_apart(programs: dict[str, Path]) -> Iterator[Check]:
+    """Counters that lie apart run as those that the program pads, and count the same as in order."""
+    got = of_each(figures_of(programs["gain"], "own_counters", COUNTERS_APART))
+    yield ("own_counters whose counters lie apart", differs({cores: one[0] for cores, one in got.items()},
+                                                            {"1": "464", "2": "232", "4": "116", "8": "110"}))
+    yield "as padded_counters", differs(got, of_each(figures_of(programs["gain"], "padded_counters", "caches")))
+    text = (ROOT / "examples" / "own_counters.image").read_text(encoding="latin-1")
+    report = called([programs["seq"], "seq"], text).stdout
+    for cores in ("1", "2", "4", "8"):
+        done = called([programs["replay"], "even", COUNTERS_APART, cores], text)
+        yield (f"what own_counters makes apart on {cores} cores",
+               differs((done.stdout.partition("\n")[2].partition("counts ")[0], done.stderr, done.returncode),
+                       (report, "", 0)))
+
+
 # --- Random loops over random caches ---------------------------------------------
 
 def machine(rng: random.Random, size: int, most: int = 10) -> str:
@@ -78,9 +103,18 @@ def machine(rng: random.Random, size: int, most: int = 10) -> str:
               "sets": 2 ** min(rng.randint(0, most), rng.randint(0, most)),
               "ways": min(rng.randint(1, 16), rng.randint(1, 16)),
               "buffer": min(rng.randint(1, 64), rng.randint(1, 64), rng.randint(1, 64))}
-    named = [key for key in KEYS if rng.random() < 0.8 or key == "line" and chosen["line"] != 16]
+    named = [f"{key}={chosen[key]}" for key in KEYS if rng.random() < 0.8 or key == "line" and chosen["line"] != 16]
+    if size >= 4 and rng.random() < 0.4:
+        named.append(apart(rng, size, chosen["line"] if any(one.startswith("line") for one in named) else 16))
     rng.shuffle(named)
-    return "caches" + (":" + ",".join(f"{key}={chosen[key]}" for key in named) if named else "")
+    return "caches" + (":" + ",".join(named) if named else "")
+
+
+def apart(rng: random.Random, size: int, line: int) -> str:
+    """Whole words of memory that lie apart, in pieces of whole words that fit into a line."""
+    length = 4 * min(rng.randint(1, size // 4), rng.randint(1, size // 4))
+    first = 4 * rng.randint(0, (size - length) // 4)
+    return f"apart={first:08x}:{length}:{4 * rng.randint(1, line // 4)}"
 
 
 def size_of(text: str) -> int:
@@ -156,7 +190,8 @@ def main() -> int:
         left_out("machines", "gain, replay or why wasn't built beside the program that is tested")
         return 0
     programs["seq"] = programs["trace_cli"]
-    script.run(partial(table, programs["gain"]), partial(random_loops, programs, given.seed, given.random))
+    script.run(partial(table, programs["gain"]), partial(lying_apart, programs),
+               partial(random_loops, programs, given.seed, given.random))
     print("random loops:", ", ".join(f"{seen[key]} {key}" for key in sorted(seen)))
     return script.ended()
 

@@ -25,14 +25,19 @@ from loops.stores import BY_VERSION, KEYS, BadStore, Machine, Store, is_store  #
 LOOP = "size {}\nepochs 2\nlimit 50\ncode 83220004938212002320500467800000\n"
 ODD, EVEN = LOOP.format(272), LOOP.format(256)
 TRACE = "trace 1\n0 start 0\n0 load 00000040 4 00000000\n0 store 00000040 4 00000001\n0 commit\n"
-# A word, and of version 1 the machine that it asks for: bytes of a line, sets, ways, lines of a buffer.
-TAKEN = {
+# A word, and of version 1 the machine that it asks for: bytes of a line, sets, ways, lines of a buffer, and what lies
+# apart.
+TAKEN: dict[str, tuple[int | str, ...]] = {
     "plain": (16, 4, 2, 4), "caches": (16, 4, 2, 4), "caches:line=64": (64, 4, 2, 4), "caches:line=16": (16, 4, 2, 4),
     "caches:line=32": (32, 4, 2, 4), "caches:sets=1": (16, 1, 2, 4), "caches:sets=1024": (16, 1024, 2, 4),
     "caches:ways=1": (16, 4, 1, 4), "caches:ways=16": (16, 4, 16, 4), "caches:ways=3": (16, 4, 3, 4),
     "caches:buffer=1": (16, 4, 2, 1), "caches:buffer=64": (16, 4, 2, 64),
     "caches:sets=64,ways=4,buffer=16": (16, 64, 4, 16), "caches:buffer=16,ways=4,sets=64": (16, 64, 4, 16),
     "caches:line=64,sets=1024,ways=16,buffer=64": (64, 1024, 16, 64),
+    "caches:apart=00000040:16:4": (16, 4, 2, 4, "00000040:16:4"),
+    "caches:apart=00000000:256:16": (16, 4, 2, 4, "00000000:256:16"),
+    "caches:apart=000000fc:4:12": (16, 4, 2, 4, "000000fc:4:12"),
+    "caches:line=64,apart=00000040:12:64,ways=1": (64, 4, 1, 4, "00000040:12:64"),
 }
 REFUSED = [
     "", "cache", "Caches", "caches ", " caches", "caches:", "caches,", "caches:,", "caches:sets", "caches:sets=",
@@ -44,7 +49,20 @@ REFUSED = [
     "caches:sets=4,ways=2,sets=8", "caches:line=48", "caches:line=8", "caches:line=128", "caches:line=0",
     "caches:ways=17", "caches:ways=0", "caches:buffer=65", "caches:buffer=0", "plain:", "plain:ways=2", "plain:sets=4",
     "caches:plain", "caches:sets=\u0664", "caches\n", "caches:sets=4\n",
+    "caches:apart", "caches:apart=", "caches:apart=00000040", "caches:apart=00000040:16",
+    "caches:apart=00000040:16:4:4", "caches:apart=00000040:16:", "caches:apart=00000040::4", "caches:apart=:16:4",
+    "caches:apart=40:16:4", "caches:apart=000000040:16:4", "caches:apart=0000004A:16:4", "caches:apart=0x000040:16:4",
+    "caches:apart=64:16:4", "caches:apart=00000040:10:4", "caches:apart=00000040:016:4", "caches:apart=00000040:16:+4",
+    "caches:apart=00000042:16:4", "caches:apart=00000040:18:4", "caches:apart=00000040:16:6",
+    "caches:apart=00000040:0:4", "caches:apart=00000040:16:0", "caches:apart=00000040:16:20,line=16",
+    "caches:apart=00000040:64:128", "caches:apart=00000040:4294967312:4", "caches:apart=00000040:16:4294967300",
+    "caches:apart=00000040:16:4,", "caches:apart=00000040:16:4,apart=00000050:16:4",
+    "caches:sets=4:apart=00000040:16:4", "plain:apart=00000040:16:4", "caches:apart=00000040,16,4",
+    "caches:apart=00000040=16=4", "caches:APART=00000040:16:4",
 ]
+# Words that fit no memory of 256 bytes, or no line of version 1, though there are images that they fit.
+UNFIT = ["caches:apart=000000fc:8:4", "caches:apart=00000100:4:4", "caches:apart=00000000:260:4",
+         "caches:apart=fffffffc:4:4", "caches:apart=00000004:4294967292:4", "caches:apart=00000040:16:20"]
 
 
 def outcome(program: Path, words: list[str], text: str) -> tuple[str, str, int]:
@@ -56,7 +74,8 @@ def tools() -> Iterator[Check]:
     """What the package makes of each word."""
     for word, wanted in TAKEN.items():
         machine = Machine.of_word(word)
-        yield f"taken: {word}", differs((machine.line, machine.sets, machine.ways, machine.buffer), wanted)
+        apart = (machine.apart.text,) if machine.apart else ()
+        yield f"taken: {word}", differs((*machine.sizes.values(), *apart), wanted)
         yield f"as it was given: {word}", differs(Store.of_word(word).word, word)
     for word in REFUSED:
         try:
@@ -65,8 +84,11 @@ def tools() -> Iterator[Check]:
             yield (f"refused: {word[:40]!r}",
                    None if " names no store; one is plain, caches or " in str(wrong) else str(wrong))
     second = Machine.of_word("caches:sets=8", 2)
-    yield ("what isn't named is the version's",
-           differs((second.line, second.sets, second.ways, second.buffer), (32, 8, 2, 8)))
+    yield "what isn't named is the version's", differs((*second.sizes.values(), second.apart), (32, 8, 2, 8, None))
+    with_apart = Machine.of_word("caches:apart=00000044:20:8")
+    yield ("the places of addresses",
+           differs([with_apart.place_of(at, 256) for at in (0x43, 0x44, 0x4b, 0x4c, 0x54, 0x57, 0x58)],
+                   [0x43, 256, 263, 272, 288, 291, 0x58]))
     yield ("all of it in words",
            differs([Machine.of_word(one.word) for one in BY_VERSION.values()], [*BY_VERSION.values()]))
     yield ("the set of an address",
@@ -83,7 +105,7 @@ def one_home() -> Iterator[Check]:
              for line in path.read_text(encoding="utf-8").splitlines()
              if number.search(re.sub(r"caches:[\w=,]+", "", line))]
     yield "one home of its numbers", "\n".join(found) or None
-    yield "the keys", differs(KEYS, ("line", "sets", "ways", "buffer"))
+    yield "the keys", differs(KEYS, ("line", "sets", "ways", "buffer", "apart"))
 
 
 # Of each program its words over a store, and what it reads.
@@ -113,6 +135,8 @@ def program(name: str, path: Path) -> Iterator[Check]:
         for word in [one for one in REFUSED if "\0" not in one and is_store(one) is False]:
             got = outcome(path, *words_of(word))
             yield f"{name}, {called_so}, refuses {word[:40]!r}", differs(got, ("", "usage\n", 2))
+        for word in UNFIT:
+            yield f"{name}, {called_so}, refuses {word}", differs(outcome(path, *words_of(word)), ("", "usage\n", 2))
         words, text = words_of("caches:line=64")
         yield (f"{name}, {called_so}, refuses memory of no whole number of lines",
                differs(outcome(path, words, text.replace(EVEN, ODD)), ("", "usage\n", 2)))

@@ -47,12 +47,29 @@ Now = list[str]
 
 
 class Machine(NamedTuple):
-    """The bytes of a line, the sets, the ways of each, and the lines of a buffer."""
+    """The bytes of a line, the sets, the ways of each, the lines of a buffer, and what lies apart: the first address,
+    how many bytes, and the bytes of a piece."""
 
     line: int
     sets: int
     ways: int
     buffer: int
+    apart: tuple[int, int, int] = (0, 0, 4)
+
+    def place(self, address: int, memory: int) -> int:
+        """Where a byte lies for the caches: behind a memory of so many bytes, where it lies apart."""
+        first, length, piece = self.apart
+        if not first <= address < first + length:
+            return address
+        return memory + (address - first) // piece * self.line + (address - first) % piece
+
+    def bytes_at(self, line: int, memory: int) -> dict[int, int]:
+        """The bytes of the line at a place: by where each lies in it, its address."""
+        first, _, piece = self.apart
+        behind = first + (line - memory) // self.line * piece
+        there = range(line, line + self.line) if line < memory else range(behind, min(behind + piece, memory))
+        return {self.place(address, memory) - line: address for address in there
+                if line <= self.place(address, memory) < line + self.line}
 
 
 class Case(NamedTuple):
@@ -141,7 +158,7 @@ def check_plain(told: Told, k: int, core: Core | None) -> None:
 
 def check_cache(told: Told, k: int, core: Core | None, committed: bytearray, machine: Machine) -> None:
     """A core with a cache of this machine."""
-    size, sets, ways, buffer = machine
+    size, sets, ways, buffer = machine[:4]
     own, outside = kept_by(core)
     stored: dict[int, int] = {}
     loaded: set[int] = set()
@@ -153,14 +170,15 @@ def check_cache(told: Told, k: int, core: Core | None, committed: bytearray, mac
         expect(f"core {k}, the mask of {now[0]}", len(now[3]), 16 if size == 64 else 8)
         expect(f"core {k}, the set of {now[0]}", (int(cache_set), int(way) < ways, len(cells)),
                (address // size % sets, True, size))
-        stored |= {address + i: cells[i] for i in range(size) if mask >> i & 1}
+        there = machine.bytes_at(address, len(committed))
+        stored |= {there.get(i, -1): cells[i] for i in range(size) if mask >> i & 1}
         loaded |= {address} if now[2] == "loaded" else set()
         shared += [now[0]] if now[1] == "SpS" and mask else []
-        rest = [i for i in range(size) if not mask >> i & 1]
+        rest = [i for i in there if not mask >> i & 1]
         expect(f"core {k}, the other bytes of {now[0]}", [cells[i] for i in rest],
-               [committed[address + i] for i in rest])
+               [committed[there[i]] for i in rest])
     expect(f"core {k} has stored", stored, own)
-    expect(f"core {k} has loaded in", loaded, {a // size * size for a in outside})
+    expect(f"core {k} has loaded in", loaded, {machine.place(a, len(committed)) // size * size for a in outside})
     expect(f"the buffer of core {k} has room", len(shared) <= buffer, True)
     expect(f"the buffer of core {k}", sorted(told.of("orb", k).get((), [])), sorted(shared))
 
@@ -168,8 +186,10 @@ def check_cache(told: Told, k: int, core: Core | None, committed: bytearray, mac
 def machine_of(store: str, version: int) -> Machine:
     """The caches of a word: those of the version, but for what the word says."""
     usual = Machine(32, 4, 2, 8) if version == 2 else Machine(16, 4, 2, 4)
-    asked = [pair.split("=") for pair in store.partition(":")[2].split(",") if pair]
-    return usual._replace(**{key: int(number) for key, number in asked})
+    asked = dict(pair.split("=") for pair in store.partition(":")[2].split(",") if pair)
+    first, length, piece = asked.pop("apart", "0:0:4").split(":")
+    return usual._replace(apart=(int(first, 16), int(length), int(piece)),
+                          **{key: int(number) for key, number in asked.items()})
 
 
 def attempt_of(core: Core | None) -> Now:

@@ -3,7 +3,7 @@ How large caches may be, and how large they are where no word says it, stands he
 
 import argparse
 import re
-from dataclasses import asdict, dataclass, fields, replace
+from dataclasses import dataclass, fields, replace
 
 LINE_LENGTHS = (16, 32, 64)
 MOST_SETS, MOST_WAYS, MOST_BUFFER = 1024, 16, 64
@@ -16,12 +16,41 @@ class BadStore(ValueError):
 
 
 @dataclass(frozen=True, slots=True)
+class Apart:
+    """Bytes of memory that have lines of their own: each piece of them has one, behind memory."""
+    first: int                              # the address of the first of them
+    length: int                             # how many they are
+    piece: int                              # bytes of a piece
+
+    @staticmethod
+    def of_text(text: str) -> "Apart":
+        """What `ADDR:LENGTH:PIECE` says: eight hexadecimal digits, and two numbers."""
+        first, length, piece = text.split(":")
+        return Apart(int(first, 16), int(length), int(piece))
+
+    def fits(self, line: int) -> bool:
+        """Whether they are whole words, and a piece is whole words that fit into a line."""
+        return (all(number % 4 == 0 for number in (self.first, self.length, self.piece))
+                and self.length > 0 and 0 < self.piece <= line)
+
+    @property
+    def text(self) -> str:
+        return f"{self.first:08x}:{self.length}:{self.piece}"
+
+    def says(self) -> str:
+        """For people."""
+        return f"{self.length:,} bytes from {self.first:08x} on lie apart, {self.piece} in a line"
+
+
+@dataclass(frozen=True, slots=True)
 class Machine:
-    """How large the caches of each core are. The fields are the keys of the word."""
+    """How large the caches of each core are, and which bytes have lines of their own. The fields are the keys of the
+    word."""
     line: int                               # bytes of a line
     sets: int                               # sets of a cache
     ways: int                               # ways of a set, each of a line
     buffer: int                             # lines of a core's buffer
+    apart: Apart | None = None              # bytes that have lines of their own
 
     @staticmethod
     def of_word(word: str, version: int = 1) -> "Machine":
@@ -37,23 +66,38 @@ class Machine:
 
     @property
     def is_one(self) -> bool:
-        """Whether there are machines of this size."""
+        """Whether there are machines of this size, for some memory."""
         return (self.line in LINE_LENGTHS and 1 <= self.sets <= MOST_SETS and self.sets & (self.sets - 1) == 0
-                and 1 <= self.ways <= MOST_WAYS and 1 <= self.buffer <= MOST_BUFFER)
+                and 1 <= self.ways <= MOST_WAYS and 1 <= self.buffer <= MOST_BUFFER
+                and (self.apart is None or self.apart.fits(self.line)))
 
-    def set_of(self, address: int) -> int:
-        """The set in which the line at an address stands."""
-        return address // self.line % self.sets
+    def place_of(self, address: int, size: int) -> int:
+        """Where the byte at an address of a memory of so many bytes lies for the caches: behind memory, where it lies
+        apart."""
+        if self.apart is None or not self.apart.first <= address < self.apart.first + self.apart.length:
+            return address
+        piece, rest = divmod(address - self.apart.first, self.apart.piece)
+        return size + piece * self.line + rest
+
+    def set_of(self, place: int) -> int:
+        """The set in which the line at a place stands."""
+        return place // self.line % self.sets
+
+    @property
+    def sizes(self) -> dict[str, int]:
+        """How large the caches are, by the keys."""
+        return {"line": self.line, "sets": self.sets, "ways": self.ways, "buffer": self.buffer}
 
     @property
     def word(self) -> str:
         """The word that asks for all of it."""
-        return "caches:" + ",".join(f"{key}={number}" for key, number in asdict(self).items())
+        asked = [f"{key}={number}" for key, number in self.sizes.items()]
+        return "caches:" + ",".join(asked + ([f"apart={self.apart.text}"] if self.apart else []))
 
     def says(self) -> str:
         """For people."""
         return (f"{counted(self.sets, 'set')} of {counted(self.ways, 'way')} with lines of {self.line} bytes, "
-                f"and buffers of {counted(self.buffer, 'line')}")
+                f"and buffers of {counted(self.buffer, 'line')}{f'; {self.apart.says()}' if self.apart else ''}")
 
 
 # By versions of images, where no word says it
@@ -61,10 +105,12 @@ BY_VERSION = {1: Machine(line=16, sets=4, ways=2, buffer=4), 2: Machine(line=32,
 # Large caches, beside which others are seen
 LARGE = {"sets": 64, "ways": 4, "buffer": 16}
 KEYS = tuple(one.name for one in fields(Machine))
-FORM = re.compile(rf"(plain|caches)|caches:((?:{'|'.join(KEYS)})=[0-9]+(?:,(?:{'|'.join(KEYS)})=[0-9]+)*)")
+PAIR = rf"(?:(?:{'|'.join(BY_VERSION[1].sizes)})=[0-9]+|apart=[0-9a-f]{{8}}:[0-9]+:[0-9]+)"
+FORM = re.compile(rf"(plain|caches)|caches:({PAIR}(?:,{PAIR})*)")
 WANTED = (f"plain, caches or caches:KEY=N,.. with the keys line ({', '.join(map(str, LINE_LENGTHS))}), "
           f"sets (a power of two, 1 to {MOST_SETS}), "
-          f"ways (1 to {MOST_WAYS}) and buffer (1 to {MOST_BUFFER}), each at most once")
+          f"ways (1 to {MOST_WAYS}), buffer (1 to {MOST_BUFFER}) and apart (ADDR:LENGTH:PIECE, so that each PIECE of "
+          f"these bytes has a line of its own), each at most once")
 # What `gain` and `depends` are over where no word says it
 USUAL = ("caches", "plain")
 
@@ -73,12 +119,25 @@ def counted(count: int, word: str) -> str:
     return f"{count:,} {word}" + ("" if count == 1 else "s")
 
 
-def asked_by(word: str) -> dict[str, int]:
-    """The keys of a word, each with its number. This is where a word is checked; the programs refuse the same."""
+def value_of(key: str, text: str) -> int | Apart:
+    """The value of a key; ValueError where it is none."""
+    numbers = text.split(":")[1:] if key == "apart" else [text]
+    if not all(NUMBER.fullmatch(number) and int(number) < 1 << 32 for number in numbers):
+        raise ValueError(text)
+    return Apart.of_text(text) if key == "apart" else int(text)
+
+
+def asked_by(word: str) -> dict[str, int | Apart]:
+    """The keys of a word, each with its value. This is where a word is checked; the programs refuse the same. Pieces of
+    what lies apart fit into a line that isn't named, where they do in some version; and the image says the memory."""
     found = FORM.fullmatch(word)
     pairs = [one.split("=") for one in (found[2] or "").split(",") if one] if found else []
-    asked = {key: int(number) for key, number in pairs if NUMBER.fullmatch(number)}
-    if found is None or len(asked) < len(pairs) or not replace(BY_VERSION[1], **asked).is_one:
+    try:
+        asked = {key: value_of(key, text) for key, text in pairs}
+    except ValueError:
+        found, asked = None, {}
+    if (found is None or len(asked) < len(pairs)
+            or not any(replace(machine, **asked).is_one for machine in BY_VERSION.values())):
         raise BadStore(f"{word!r} names no store; one is {WANTED}")
     return asked
 

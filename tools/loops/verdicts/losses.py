@@ -45,6 +45,6 @@ class Losses:
             if what in ("start", "restart"):
                 lines[core] = set()
             elif what in ("load", "store"):
-                lines[core].add(int(rest[0], 16) // self.machine.line)
+                lines[core].add(self.machine.place_of(int(rest[0], 16), self.image.size) // self.machine.line)
                 most = max(most, len(lines[core]))
         return most

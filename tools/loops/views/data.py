@@ -2,7 +2,7 @@
 another, and those that aren't shown aren't kept."""
 
 from collections.abc import Mapping
-from dataclasses import asdict, dataclass, field
+from dataclasses import dataclass, field
 from typing import TypedDict
 
 from loops import Change, Entry, Image, Step, Violation
@@ -124,6 +124,12 @@ def loaded(image: Image) -> bytearray:
     return memory
 
 
+def apart_in(image: Image, machine: Machine) -> list[int]:
+    """What lies apart, as the page has it."""
+    one = machine.apart
+    return [one.first, one.length, one.piece, image.size] if one else []
+
+
 def rows_of(address: int, length: int) -> range:
     return range(address // ROW * ROW, address + max(length, 1), ROW)
 
@@ -203,6 +209,8 @@ class PageData(Cut):
     over: str                                           # the store, for people
     plain: bool
     machine: dict[str, int]                             # `line`, `sets`, `ways` and `buffer` of the caches
+    apart: list[int]                                    # of bytes that lie apart, if there are such: the first address,
+                                                        # how many, the bytes of a piece, and the bytes of memory
     cores: int
     epochs: int
     all: int                                            # turns of the run
@@ -222,7 +230,8 @@ def page_data(run: Told, turns: Turns, lanes: Lanes, cores: int, violations: Map
     image, left_out = run.image, cut(turns)
     words = [(pc, int.from_bytes(image.code[pc:pc + 4], "little")) for pc in range(0, len(image.code), 4)]
     data: PageData = {
-        "about": image.about, "over": run.store.says(), "plain": run.store.is_plain, "machine": asdict(run.machine),
+        "about": image.about, "over": run.store.says(), "plain": run.store.is_plain, "machine": run.machine.sizes,
+        "apart": apart_in(image, run.machine),
         "cores": cores,
         "epochs": image.epochs, "all": turns.count,
         "variables": [[one.name, one.address, one.length] for one in image.variables],

@@ -25,6 +25,14 @@ function namesIn(address, length) {
   return told.join(", ");
 }
 
+// The same of the line at a place: behind memory it has a piece of the bytes that lie apart.
+function namesOfLine(place) {
+  const [first, length, piece, size] = run.apart;
+  if (!(place >= size)) return namesIn(place, LENGTH);
+  const from = first + (place - size) / LENGTH * piece;
+  return namesIn(from, Math.min(piece, first + length - from));
+}
+
 function made(tag, text = "", kind = "") {
   const one = document.createElement(tag);
   one.textContent = text;
@@ -99,7 +107,7 @@ function wayCell(place) {
   if (loaded) cell.append(" ", made("span", "loaded", "mark"));
   if (isSome(stored)) cell.append(" mask ", made("span", stored, "mask"));
   cell.append(made("br"), bytesShown(bytes, stored, oldAddress === address ? oldBytes : undefined));
-  cell.append(made("br"), made("span", namesIn(address, LENGTH), "names"), " ", cell.querySelector(".word") ?? "");
+  cell.append(made("br"), made("span", namesOfLine(address), "names"), " ", cell.querySelector(".word") ?? "");
   return cell;
 }
 
@@ -137,7 +145,7 @@ function cacheTable(core) {
 
 function bufferPart(core) {
   const part = placed("p", `orb ${core}`), lines = at(`orb ${core}`) ?? [];
-  const told = lines.map(line => `${word(line)} ${namesIn(line, LENGTH)}`.trim());
+  const told = lines.map(line => `${word(line)} ${namesOfLine(line)}`.trim());
   part.append(`buffer, ${lines.length} of ${BUFFER} lines${told.length ? ": " : ""}${told.join("; ")}`);
   return part;
 }
