@@ -43,18 +43,6 @@ number_below n a size h =
     by_length (λ n. a < size → size % n ≡ 0 → a / n < size / n) n h
     (λ b w. omega (arith, b, w)) (λ b w. omega (arith, b, w)) (λ b w. omega (arith, b, w))
 
-pub byte_within : (n size line x : ℕ) → is_line_length n ≡ true → line < size / n → x < n → line * n + x < size
-byte_within n size line x h =
-    by_length (λ n. line < size / n → x < n → line * n + x < size) n h
-    (λ b i. omega (arith, b, i)) (λ b i. omega (arith, b, i)) (λ b i. omega (arith, b, i))
-
--- a line begins at or before its bytes, and has its end not far past memory
-pub line_first : (n a : ℕ) → is_line_length n ≡ true → a / n * n ≤ a
-line_first n a h = by_length (λ n. a / n * n ≤ a) n h (omega arith) (omega arith) (omega arith)
-
-pub line_room : (n a : ℕ) → is_line_length n ≡ true → a < 1048576 → a / n * n + n < 4294967296
-line_room n a h = by_length (λ n. a < 1048576 → a / n * n + n < 4294967296) n h (λ s. omega (arith, s)) (λ s. omega (arith, s)) (λ s. omega (arith, s))
-
 pub number_up : (n a b : ℕ) → a ≤ b → a / n ≤ b / n
 number_up zero a b up = omega arith
 number_up (suc n) a b up = let first = div-mul-le_self a (suc n) in le-div (a / suc n) b (suc n) (omega arith) (omega (arith, first, up))
@@ -69,27 +57,8 @@ pub same_number : (n a b : ℕ) → is_line_length n ≡ true → n * (a / n) �
 same_number n a b h =
     by_length (λ n. n * (a / n) ≡ n * (b / n) → a / n ≡ b / n) n h (λ s. omega (arith, s)) (λ s. omega (arith, s)) (λ s. omega (arith, s))
 
-pub line_of_place : (n a x : ℕ) → is_line_length n ≡ true → x < n → n * (a / n) ≡ n * ((a / n * n + x) / n)
-line_of_place n a x h =
-    by_length (λ n. x < n → n * (a / n) ≡ n * ((a / n * n + x) / n)) n h (λ b. omega (arith, b)) (λ b. omega (arith, b)) (λ b. omega (arith, b))
-
--- the byte stands at its place in a line that begins where its own does
-pub own_place : (n a b : ℕ) → is_line_length n ≡ true → n * (a / n) ≡ n * (b / n) → b / n * n + a % n ≡ a
-own_place n a b h =
-    by_length (λ n. n * (a / n) ≡ n * (b / n) → b / n * n + a % n ≡ a) n h (λ s. omega (arith, s)) (λ s. omega (arith, s)) (λ s. omega (arith, s))
-
 -- all bytes of a line lie in memory where one does
 pub line_below : (n a b size : ℕ) → is_line_length n ≡ true → a / n ≡ b / n → a < size → size % n ≡ 0 → b < size
 line_below n a b size h =
     by_length (λ n. a / n ≡ b / n → a < size → size % n ≡ 0 → b < size) n h
     (λ s b w. omega (arith, s, b, w)) (λ s b w. omega (arith, s, b, w)) (λ s b w. omega (arith, s, b, w))
-
-pub place_below : (n a x size : ℕ) → is_line_length n ≡ true → x < n → a < size → size % n ≡ 0 → a / n * n + x < size
-place_below n a x size h =
-    by_length (λ n. x < n → a < size → size % n ≡ 0 → a / n * n + x < size) n h
-    (λ b i w. omega (arith, b, i, w)) (λ b i w. omega (arith, b, i, w)) (λ b i w. omega (arith, b, i, w))
-
--- bytes of one line lie in the same 64 aligned bytes
-pub same_block : (n a b : ℕ) → is_line_length n ≡ true → n * (a / n) ≡ n * (b / n) → a / 64 ≡ b / 64
-same_block n a b h =
-    by_length (λ n. n * (a / n) ≡ n * (b / n) → a / 64 ≡ b / 64) n h (λ s. omega (arith, s)) (λ s. omega (arith, s)) (λ s. omega (arith, s))

@@ -6,7 +6,7 @@ use Rattle.memory_bytes.specs.Bytes.{IsWidth, byte_of, number_at}
 use Rattle.memory_bytes.specs.Maps.{over, stored}
 use Rattle.violations.specs.declared.attempt.Attempt.{Attempt}
 use Rattle.violations.specs.Relabelled.{relabelled, IsRelabelling, OwnsBytes}
-use Rattle.violations.specs.Rule.{IsSameCore, IsSpared, IsHurt, HurtsLater, Guards, OwnsIn, AreApart, IsCrowded, IsSameView, Begins, Ends, TakesIn, Loads, Stores, Publishes, LoadsStraight, StoresStraight}
+use Rattle.violations.specs.Rule.{IsSameCore, IsSpared, IsHurt, HurtsLater, Guards, OwnsIn, AreApart, IsCrowded, Begins, Ends, TakesIn, Loads, Stores, Publishes, LoadsStraight, StoresStraight}
 use Rattle.violations.specs.View.{Shape, StoreView, attempt_of, epoch_of, line_of, IsClear, IsSettled, is_accessed, IsLoad, Runs}
 
 -- the number in bytes that stand elsewhere
@@ -211,9 +211,6 @@ module _ (place : ℕ → ℕ) (shape : Shape) where
           stands = λ a. one.stands (place a);
         };
   }
-
-  pub view-at : (v w : StoreView) → IsSameView v w → IsSameView (relabelled place shape v) (relabelled place shape w)
-  view-at v w s = record { shape = refl; cached = s.cached; committed = λ a. s.committed (place a); cores = λ k. core-at v w k (s.cores k) }
 
   pub begins-at : (v w : StoreView) (core epoch : ℕ) → Begins v w core epoch → Begins (relabelled place shape v) (relabelled place shape w) core epoch
   begins-at v w core epoch b = record {
