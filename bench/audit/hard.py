@@ -4,6 +4,11 @@
     bench/audit/hard.py [FORM ..]            measures the forms, or those that are named
     bench/audit/hard.py FORM ENTRIES > FILE  writes the image of a form, and a trace of so many entries below it
 
+The forms: `stores`, one long attempt, each of whose stores violates the epoch after it by false sharing; `both`, the
+same, and its last store is to the bytes that all had read; `pairs`, each store is another instruction, and violates
+fifteen epochs, each of which loads by one of its own; `notices`, nothing but one epoch that is violated and begun
+again; `bytes`, one violation with many bytes, read one by one.
+
 Build the programs first, by calling ./trace_cli and ./why. Both take turns, three times. The status is 1 where `why`
 takes more than MOST times the audit's processor time at any length, or answers with anything but status 0. Needs GNU
 time, /usr/bin/time.
