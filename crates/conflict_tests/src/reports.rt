@@ -183,7 +183,7 @@ total epochs 2 committed 0 useful 3 rollbacks 1 lost 2 cancelled 0 dropped 0 ope
 ";
 
 /// Epoch 0 loads from five lines, and epoch 1 stores to them, which its buffer of four lines can't hold.
-const FULL: &str = "size 256
+pub const FULL: &str = "size 256
 epochs 6
 limit 100
 code 630e05002320a0042328a0042320a0062328a0062320a00867800000832200048322000583220006832200078322000867800000
@@ -216,7 +216,7 @@ total epochs 6 committed 0 useful 0 rollbacks 1 lost 7 cancelled 0 dropped 0 ope
 ";
 
 /// Epoch 0 stores beside the byte that epoch 1 loads, and then to it.
-const CAME_TRUE: &str = "size 256
+pub const CAME_TRUE: &str = "size 256
 epochs 2
 limit 100
 code 63060500830200046780000093027000231150042300500467800000
@@ -246,7 +246,7 @@ total epochs 2 committed 2 useful 8 rollbacks 1 lost 3 cancelled 0 dropped 0 ope
 ";
 
 /// Epoch 0 commits a word that changes, one that does not, and one beside a third: epoch 1 has read all three.
-const THREE_RUNS: &str = "size 256
+pub const THREE_RUNS: &str = "size 256
 epochs 2
 limit 50
 code 832200040323400483230005930515002320b00423220004232ab00467800000
@@ -274,7 +274,7 @@ trace 2
 1 commit
 ";
 
-const THREE_RUNS_TOLD: &str =
+pub const THREE_RUNS_TOLD: &str =
     "hurt 11 true epoch 1 try 1 core 1 lost 4 entered 3 since 4 by 0 core 0 cause 12 commit load 5 00000000 store 8 00000010 at 00000040 4
 also 11 silent load 6 00000004 store 9 00000014 at 00000044 4
 also 11 false load 7 00000008 store 10 00000018 at 00000050 4
@@ -538,7 +538,7 @@ total epochs 6 committed 0 useful 0 rollbacks 1 lost 7 cancelled 0 dropped 0 ope
 ";
 
 /// Whether the program prints this of an input, on the machine of a word.
-fn is_told_on(alloc: Global, store: &str, input: &str, told: &str) -> bool {
+pub fn is_told_on(alloc: Global, store: &str, input: &str, told: &str) -> bool {
     run_on(alloc, &["why", store], input).is(0, told.as_bytes(), "")
 }
 
