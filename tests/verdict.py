@@ -68,7 +68,8 @@ EVENS: list[tuple[int, list[int], str]] = [
     (3, [], f"{EACH} 3 steps more, it takes fewer steps than the loop in order; at higher costs, up to 60, it doesn't. "
             "What"),
     (1, [], f"{EACH} 1 step more, it takes fewer steps than the loop in order; at higher"),
-    (0, [], f"{EACH} 0 steps more, it takes fewer steps than the loop in order; at higher"),
+    (0, [], f" Where{EACH} 1 to 60 steps more, it takes no fewer steps than the loop in order. What"),
+    (0, [1], "than the loop in order, but at 1 its history is full, so that isn't known. What"),
     (60, [], f"{EACH} 60 steps more, it takes fewer steps than the loop in order, and no higher cost was tried. What"),
     (-1, [], f" Whatever{EACH}, up to 60 steps, it takes no fewer steps than the loop in order. What"),
     (3, [40], "; at higher costs, up to 60, it doesn't, but at 40 its history is full, so that isn't known. What"),

@@ -198,6 +198,9 @@ def dearest_words(found: Findings) -> str:
     if at is None:
         return (f" Whatever {each} costs, up to {MOST_COST} steps, it takes no fewer steps than the loop in "
                 f"order{unknown}.")
+    if at == 0:
+        return (f" Where {each} costs 1 to {MOST_COST} steps more, it takes no fewer steps than the loop in "
+                f"order{unknown}.")
     told = f" Where {each} costs {plural(at, 'step')} more, it takes fewer steps than the loop in order"
     return told + (f"; at higher costs, up to {MOST_COST}, it doesn't{unknown}." if at < MOST_COST
                    else ", and no higher cost was tried.")
