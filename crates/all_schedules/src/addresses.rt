@@ -1,13 +1,13 @@
 //! Addresses of code, as words of a command line write them.
 ghost use Rattle.std.specs.Prelude.{◌≡◌, ◌≤◌, IfOk, IfSome, IfNone, Some, None, length, map, unwrap_or};
 ghost use Rattle.std.specs.List.{list_all};
+ghost use Rattle.trace_commands.specs.Addresses.{address_in};
 ghost use Rattle.all_schedules.specs.Addresses as spec;
 ghost use Rattle.all_schedules.specs.Addresses.{wait_place, waits_in};
 
-use rv32_image::word_in;
 use std::alloc::{AllocError, Global};
 use std::convert::AsStr;
-use trace_commands::first_word;
+use trace_commands::{address_in, first_word};
 
 /// How many words stand before the first `--wait`.
 pub fn wait_place<S: AsStr>(words: &[S]) -> usize
@@ -51,7 +51,7 @@ fn all_addresses<S: AsStr>(words: &[S]) -> bool
     ensures { result ≡ list_all spec.is_address (map S.text words.now) }
 {
     for word in words {
-        if address_in(word.as_str()).is_none() {
+        if address_in(word.as_str().as_bytes()).is_none() {
             return false;
         }
     }
@@ -73,41 +73,10 @@ pub fn addresses_of<S: AsStr>(alloc: Global, words: &[S]) -> Result<Vec<u32>, Al
 
 /// The address that a word writes, or 0.
 fn address_of(word: &str) -> u32
-    ensures { result ≡ unwrap_or (spec.address_in word.now) 0 }
+    ensures { result ≡ unwrap_or (address_in word.now) 0 }
 {
-    match address_in(word) {
+    match address_in(word.as_bytes()) {
         Some(address) => address,
         None => 0,
     }
-}
-
-/// The number that just eight hexadecimal digits write in lower case. None: the word is no such number.
-#[tactic(auto, unfolding(crate::specs::Addresses::address_in))]
-fn address_in(word: &str) -> Option<u32>
-    ensures { result ≡ spec.address_in word.now }
-{
-    if !are_lower_digits(word.as_bytes()) {
-        return None;
-    }
-    match word_in(word.as_bytes()) {
-        Ok(address) => Some(address),
-        Err(_) => None,
-    }
-}
-
-fn are_lower_digits(word: &[u8]) -> bool
-    ensures { result ≡ list_all spec.is_lower_digit word.now }
-{
-    for b in word {
-        if !is_lower_digit(*b) {
-            return false;
-        }
-    }
-    true
-}
-
-fn is_lower_digit(b: u8) -> bool
-    ensures { result ≡ spec.is_lower_digit b }
-{
-    b.is_ascii_digit() || (b'a' <= b && b <= b'f')
 }
