@@ -13,6 +13,7 @@ import csv
 import json
 import os
 import pty
+import re
 import shutil
 import signal
 import subprocess
@@ -24,7 +25,7 @@ from functools import wraps
 from pathlib import Path
 from xml.etree import ElementTree
 
-from common import ROOT, Check, Script, beside, called, called_well, differs, left_out, there
+from common import ROOT, Check, Script, beside, called, called_well, differs, left_out
 from packages import has_module
 from view import driver, find_selenium
 
@@ -262,8 +263,7 @@ def dear(folder: Path, programs: Path) -> Results:
              if sum(int(row[name] or 0) for name in PARTS) != int(row["cores"]) * int(row["steps"])]
     yield "each step of each core is counted once", None if not wrong else f"{wrong}"
     page = (out / "page.html").read_text()
-    heads = [there(one.find("button")).text for one in ElementTree.fromstring(
-        page.partition('<table id="runs"><thead>')[2].partition("</thead>")[0]).findall("th")]
+    heads = re.findall(r">([^<]+)</button>", page.partition('<table id="runs">')[2].partition("</thead>")[0])
     yield "the columns of its page", differs([name for name in ("costs", "order", "queue", "held") if name in heads],
                                              ["costs", "order", "queue", "held"])
     drawn = [path.name for path in sorted(out.glob("gains*.svg"))]
