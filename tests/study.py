@@ -272,8 +272,9 @@ def dear(folder: Path, programs: Path) -> Results:
         (["gains-1.svg", "gains-2.svg", "gains.svg"], 3, 2))
     before = rows_made(out)
     said, status = study(folder, DEAR.replace(', "bus=10,hold=10"', ""), programs)
-    yield "costs less run nothing", None if status == 0 and rows_made(out) == before and len(
-        table(out)) == 8 else f"{said!r}, {status}"
+    left = [path.name for path in sorted(out.glob("gains*.svg"))]
+    yield ("costs less run nothing", None if status == 0 and rows_made(out) == before and len(table(out)) == 8
+           and left == ["gains-1.svg", "gains.svg"] else f"{said!r}, {status}, {left}")
 
 
 def wait_for(out: Path, rows: int, run: subprocess.Popen[str] | subprocess.Popen[bytes]) -> None:

@@ -65,12 +65,12 @@ ALLOWED = [
 # Up to which cost two cores take fewer steps than in order, at which their history is full, and what is told then.
 EACH = " each miss, upgrade, begin, restart, commit and published line costs"
 EVENS: list[tuple[int, list[int], str]] = [
+    (60, [], f"{EACH} 60 steps more, it takes fewer steps than the loop in order, and no higher cost was tried. What"),
     (3, [], f"{EACH} 3 steps more, it takes fewer steps than the loop in order; at higher costs, up to 60, it doesn't. "
             "What"),
     (1, [], f"{EACH} 1 step more, it takes fewer steps than the loop in order; at higher"),
     (0, [], f" Where{EACH} 1 to 60 steps more, it takes no fewer steps than the loop in order. What"),
     (0, [1], "than the loop in order, but at 1 its history is full, so that isn't known. What"),
-    (60, [], f"{EACH} 60 steps more, it takes fewer steps than the loop in order, and no higher cost was tried. What"),
     (-1, [], f" Whatever{EACH}, up to 60 steps, it takes no fewer steps than the loop in order. What"),
     (3, [40], "; at higher costs, up to 60, it doesn't, but at 40 its history is full, so that isn't known. What"),
     (3, [60, *range(5, 25)], "it doesn't, but at 21 of these costs, between 5 and 60, its history is full, so that "
@@ -215,7 +215,7 @@ def verdict(folder: Path | str, image: Path, *words: str | Path) -> tuple[str, s
 
 
 def stub_gain(folder: Path | str, output: str, waiting: str = ONE + HELD, held: str | None = None,
-              at: int = 3, full: Iterable[int] = ()) -> None:
+              at: int = 60, full: Iterable[int] = ()) -> None:
     """A `gain` that prints one of these: of the load at 4 alone, over caches, that waits; of each load that waits; and
     where actions cost something, that it takes fewer steps than in order up to such a cost, with full histories at
     others."""

@@ -115,6 +115,8 @@ def put_together(study: Study, kept: Kept) -> None:
     """The tables and the page."""
     rows: list[Row] = study.run_rows()
     write_tables(study, kept, rows)
+    for left in kept.folder.glob("gains-*.svg"):        # at costs that aren't asked for any more
+        left.unlink()
     plots = [(costs, plot(study, kept.folder, place, costs)) for place, costs in enumerate(study.plan.all_costs())]
     (kept.folder / "page.html").write_text(page(study.plan, rows, plots), encoding="utf-8",
                                            errors="backslashreplace")

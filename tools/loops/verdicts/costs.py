@@ -6,7 +6,7 @@ from dataclasses import dataclass
 from loops.gains import Gain
 
 # The highest cost of each action that is tried, as by `gain --even-at`
-MOST_COST = 60
+MOST_TRIED = 60
 # Unasked they are tried of a loop that takes at most so many steps on one core: 61 runs of it take a few seconds.
 SHORT = 20_000
 # What the loop gains where each action costs so many steps more
@@ -29,7 +29,7 @@ def is_short(one: Gain) -> bool:
 def dearest(tried: Tried) -> Dearest:
     """Tries each cost, from the highest on, since dearer turns may take fewer steps."""
     full = []
-    for cost in range(MOST_COST, -1, -1):
+    for cost in range(MOST_TRIED, -1, -1):
         run = tried(cost)
         if run.full:
             full.append(cost)

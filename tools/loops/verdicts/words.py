@@ -11,7 +11,7 @@ from loops.pictures.words import advice, listed as places_listed, plural
 from loops.stores import MOST_SETS, Store
 
 from .chunks import Chunk, Measured, maker_of
-from .costs import MOST_COST, SHORT, Dearest
+from .costs import MOST_TRIED, SHORT, Dearest
 from .flow import earliest, flow
 from .losses import Losses
 from .sizes import ALIKE, Sizes, are_alike
@@ -192,17 +192,17 @@ def dearest_words(found: Findings) -> str:
         takes = ("its history is full" if found.one.steps is None
                  else f"it takes {plural(found.one.steps, 'step')}, more than {SHORT:,}")
         return (" Up to which cost of communication it gains wasn't tried, since that takes up to "
-                f"{MOST_COST + 1} runs and on one core {takes}: --even-at asks for it.")
+                f"{MOST_TRIED + 1} runs and on one core {takes}: --even-at asks for it.")
     at, each = found.dearest.at, "each miss, upgrade, begin, restart, commit and published line"
     unknown = unknown_words(found.dearest.full)
     if at is None:
-        return (f" Whatever {each} costs, up to {MOST_COST} steps, it takes no fewer steps than the loop in "
+        return (f" Whatever {each} costs, up to {MOST_TRIED} steps, it takes no fewer steps than the loop in "
                 f"order{unknown}.")
     if at == 0:
-        return (f" Where {each} costs 1 to {MOST_COST} steps more, it takes no fewer steps than the loop in "
+        return (f" Where {each} costs 1 to {MOST_TRIED} steps more, it takes no fewer steps than the loop in "
                 f"order{unknown}.")
     told = f" Where {each} costs {plural(at, 'step')} more, it takes fewer steps than the loop in order"
-    return told + (f"; at higher costs, up to {MOST_COST}, it doesn't{unknown}." if at < MOST_COST
+    return told + (f"; at higher costs, up to {MOST_TRIED}, it doesn't{unknown}." if at < MOST_TRIED
                    else ", and no higher cost was tried.")
 
 
