@@ -216,14 +216,15 @@ def verdict(folder: Path | str, image: Path, *words: str | Path) -> tuple[str, s
 
 def stub_gain(folder: Path | str, output: str, waiting: str = ONE + HELD, held: str | None = None,
               at: int = 60, full: Iterable[int] = ()) -> None:
-    """A `gain` that prints one of these: of the load at 4 alone, over caches, that waits; of each load that waits; and
+    """A `gain` that prints one of these: of one of two loads, over caches, that waits; of each load that waits; and
     where actions cost something, that it takes fewer steps than in order up to such a cost, with full histories at
     others."""
     held = (ONE + ALL_HELD).format("caches", "caches", *HELD_ROWS[0][:2]) if held is None else held
     path = Path(folder, "gain")
     path.write_text(
         "#!/bin/sh\ncat >/dev/null\ncost=${*##*=}\ncase \"$*\" in\n"
-        f"'2 caches --wait 00000004') cat <<'END'\n{waiting.format('caches', 'caches')}END\n;;\n"
+        "'2 caches --wait 00000004'|'2 caches --wait 00000008') "
+        f"cat <<'END'\n{waiting.format('caches', 'caches')}END\n;;\n"
         f"'2 caches --held') cat <<'END'\n{held}END\n;;\n'2 caches --costs bus='*)\n"
         f"case ' {' '.join(map(str, full))} ' in *\" $cost \"*) echo store caches cores 2 full; exit 0 ;; esac\n"
         f"if [ \"$cost\" -le {at} ]; then steps=19; else steps=20; fi\necho \"{COSTED.rstrip()}\" ;;\n"
@@ -238,6 +239,14 @@ def tries(folder: Path | str, image: Path) -> Results:
         got = verdict(folder, image, "--cores", "2")
         told = SAID.replace(f"{HOLDS}{HELD_ROWS[0][2]}", f"{HOLDS}{said}" if said else "")
         yield f"each load waits: {steps} steps, a gain of {gain}", differs(got, (told, "", 0))
+    stub_gain(folder, GAIN)
+    stub(folder, "why", WHY.partition("\n")[0].replace("load 3 00000004", "load 3 00000008") + "\n" + WHY)
+    image.write_text(IMAGE.replace("# code 00000014", "# code 00000008 waits.c:7\n# code 00000014"))
+    got = verdict(folder, image, "--cores", "2")
+    said = "the first, it gains 1.33 at waits.c:7 (00000004) and 1.33 at waits.c:7 (00000008)."
+    yield "two loads of one line", None if said in got[0] and got[1:] == ("", 0) else f"got {got}"
+    stub(folder, "why", WHY)
+    image.write_text(IMAGE)
     stub_gain(folder, GAIN, held="held caches cores 1 full\nheld caches cores 2 full\n")
     got = verdict(folder, image, "--cores", "2")
     yield ("full where each load waits",

@@ -158,8 +158,9 @@ def allowed_words(found: Findings) -> str:
 
 def wait_words(found: Findings) -> str:
     """What the loop gains where one of the loads that were hit waits until its epoch is the first."""
-    told = [f"{one.run.gain:.2f} at {at(found.over_caches, one.load)}" for one in found.waits
-            if one.run.gain is not None]
+    lines = [at(found.over_caches, one.load) for one in found.waits]
+    told = [f"{one.run.gain:.2f} at {line}" + (f" ({one.load:08x})" if lines.count(line) > 1 else "")
+            for one, line in zip(found.waits, lines) if one.run.gain is not None]
     return f" Where one load waits until its epoch is the first, it gains {listed(told)}." if told else ""
 
 
