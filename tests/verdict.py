@@ -48,6 +48,12 @@ WAITS = " Where one load waits until its epoch is the first, it gains 1.33 at wa
 ALL_HELD = HELD.replace("store", "held", 1).replace("steps 9 gain 1.33", "steps {} gain {}")
 HELD_ROWS = [("8", "1.50", "it gains 1.50."), ("13", "0.92", "it loses, a gain of 0.92."), ("10", "1.20", ""),
              ("8", "-", "")]
+# What `gain` prints where bytes lie apart, and such bytes with what is told then.
+APART = "caches:line=16,sets=4,ways=2,buffer=4,apart="
+PARTED = (ONE + TWO.replace("steps 10 gain 1.20", "steps 7 gain 1.71")).replace("{}", "{0}")
+PIECES = [("# flag 00000040 4", "00000040:4:4", "4 bytes of flag"),
+          ("# flags 0000003e 5", "0000003c:8:4", "4 bytes of flags"),
+          ("# other 00000080 4", "00000040:16:4", "4 bytes of 00000040")]
 HOLDS = " Where each load waits for the earlier epochs that store to its line, "
 # What `gain --costs bus=N` prints of two cores.
 COSTED = (TWO.replace("useful 12", "order 20 busy 8 handling 4 memory 0 queue 0").format("caches")
@@ -179,6 +185,7 @@ EXAMPLES = {"histogram": ["gains 2.28 on 4 cores", "plain store of bytes it gain
                              "27 % are useful, 64 % are lost and 9 % are idle",
                              "42 rollbacks by false sharing lost 1,050 instructions",
                              "give counter, counter+4, counter+8 and counter+12 lines of 16 bytes of their own",
+                             "With a line of its own for each 4 bytes of counter it gains 4.00.",
                              f"{HOLDS}it gains 1.29."],
             "padded_counters": ["gains 4.00 on 4 cores", "Nothing holds it back."],
             "list_walk": ["loses on 4 cores at even speed, a gain of 0.99", "18 rollbacks by true sharing lost",
@@ -215,16 +222,17 @@ def verdict(folder: Path | str, image: Path, *words: str | Path) -> tuple[str, s
 
 
 def stub_gain(folder: Path | str, output: str, waiting: str = ONE + HELD, held: str | None = None,
-              at: int = 60, full: Iterable[int] = ()) -> None:
-    """A `gain` that prints one of these: of one of two loads, over caches, that waits; of each load that waits; and
-    where actions cost something, that it takes fewer steps than in order up to such a cost, with full histories at
-    others."""
+              at: int = 60, full: Iterable[int] = (), bytes_apart: str = "") -> None:
+    """A `gain` that prints one of these: of one of two loads, over caches, that waits; of each load that waits; where
+    these bytes lie apart, seven steps; and where actions cost something, that it takes fewer steps than in order up to
+    such a cost, with full histories at others."""
     held = (ONE + ALL_HELD).format("caches", "caches", *HELD_ROWS[0][:2]) if held is None else held
     path = Path(folder, "gain")
     path.write_text(
         "#!/bin/sh\ncat >/dev/null\ncost=${*##*=}\ncase \"$*\" in\n"
         "'2 caches --wait 00000004'|'2 caches --wait 00000008') "
         f"cat <<'END'\n{waiting.format('caches', 'caches')}END\n;;\n"
+        f"'2 {APART}{bytes_apart}') cat <<'END'\n{PARTED.format(APART + bytes_apart)}END\n;;\n*apart=*) exit 9 ;;\n"
         f"'2 caches --held') cat <<'END'\n{held}END\n;;\n'2 caches --costs bus='*)\n"
         f"case ' {' '.join(map(str, full))} ' in *\" $cost \"*) echo store caches cores 2 full; exit 0 ;; esac\n"
         f"if [ \"$cost\" -le {at} ]; then steps=19; else steps=20; fi\necho \"{COSTED.rstrip()}\" ;;\n"
@@ -251,6 +259,15 @@ def tries(folder: Path | str, image: Path) -> Results:
     got = verdict(folder, image, "--cores", "2")
     yield ("full where each load waits",
            differs(got, (SAID.replace(HELD_ROWS[0][2], "its history is full."), "", 0)))
+    stub(folder, "why", WHY.replace("true", "false"))
+    for variable, pieces, said in PIECES:
+        stub_gain(folder, GAIN, bytes_apart=pieces)
+        image.write_text(IMAGE.replace("# flag 00000040 4", variable))
+        got = verdict(folder, image, "--cores", "2")
+        told = f"waits.c:7. With a line of its own for each {said} it gains 1.71. Where each"
+        yield f"{variable} apart", None if told in got[0] and got[1:] == ("", 0) else f"got {got}"
+    stub(folder, "why", WHY)
+    image.write_text(IMAGE)
     for at, full, said in EVENS:
         stub_gain(folder, GAIN, at=at, full=full)
         got = verdict(folder, image, "--cores", "2")

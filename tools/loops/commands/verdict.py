@@ -10,9 +10,10 @@ waiting for the caches may hide what epochs need of one another. STORE is the ca
 image's version where it isn't said. Where large caches gain something else it says so, and where the plain store gains
 and they don't, which are the first to gain as much. Where its dependences allow a fifth more than it gains it says so.
 Where it loses steps, it says what it gains where one of the loads that lost most waits until its epoch is the first;
-and where that is something else, what it gains where each load waits for the earlier epochs that store to its line. It
-says up to which cost of communication it takes fewer steps than the loop in order. For that `gain` is called up to 61
-times: unasked of loops that take up to 20,000 steps on one core, else with --even-at.
+and where that is something else, what it gains where each load waits for the earlier epochs that store to its line.
+Where lines are shared falsely, it says what it gains where one of the variables there has lines of its own. It says up
+to which cost of communication it takes fewer steps than the loop in order. For that `gain` is called up to 61 times:
+unasked of loops that take up to 20,000 steps on one core, else with --even-at.
 Where `depends` is built it says whether anything can roll back at all, on any schedule, and what an epoch needs
 earliest of another. Where neighbours of an array share lines it proposes --chunk of the tool that made the image,
 tools/image-of or tools/loops-of; the words behind `--` are those by which it did, and with them it measures what that
@@ -92,6 +93,7 @@ def findings(programs: Programs, given: argparse.Namespace, words: list[str]) ->
     if large:
         found.sizes = asked.sizes(Sized(large, there(gains.of(large.word, cores))), caches, plain)
     found.waits, found.held = asked.waits(caches, found.over_caches), asked.held()
+    found.aparts = asked.aparts(caches, found.over_caches)
     found.dearest = asked.dearest() if given.even_at or is_short(one) else None
     return found
 

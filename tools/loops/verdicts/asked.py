@@ -8,6 +8,7 @@ from loops.images import there
 from loops.runs import read_report
 from loops.stores import Machine, Store
 
+from .aparts import Parted, parted
 from .costs import Dearest, dearest
 from .losses import Losses
 from .sizes import Sized, Sizes, enough
@@ -72,6 +73,12 @@ class Asked:
     def waits(self, run: Gain, losses: Losses) -> list[Waited]:
         """What it gains where one load waits, of those that lost most; none where little is lost."""
         return waited(losses, self.waiting) if percent(run.count("lost"), run) >= LEAST else []
+
+    def aparts(self, run: Gain, losses: Losses) -> list[Parted]:
+        """What it gains where the variables that lost most by false sharing lie apart; none where little is lost, or
+        where bytes lie apart as it is."""
+        tried = percent(run.count("lost"), run) >= LEAST and self.store.machine.apart is None
+        return parted(losses, self.over) if tried else []
 
     def held(self) -> Gain:
         """What it gains where each load waits for what earlier epochs store."""

@@ -10,6 +10,7 @@ from loops.pictures.attempts import Blamed
 from loops.pictures.words import advice, listed as places_listed, plural
 from loops.stores import MOST_SETS, Store
 
+from .aparts import Parted
 from .chunks import Chunk, Measured, maker_of
 from .costs import MOST_TRIED, SHORT, Dearest
 from .flow import earliest, flow
@@ -51,6 +52,7 @@ class Findings:
     # what its dependences allow, where loads wait for commits, and where for stores
     allowed: tuple[float, float] | None = None
     waits: list[Waited] = field(default_factory=list)       # over these caches, a load each
+    aparts: list[Parted] = field(default_factory=list)      # over these caches, where a variable lies apart
     held: Gain | None = None            # over these caches, where each load waits for what earlier epochs store
     dearest: Dearest | None = None      # over these caches; none where no cost was tried
 
@@ -164,6 +166,13 @@ def wait_words(found: Findings) -> str:
     return f" Where one load waits until its epoch is the first, it gains {listed(told)}." if told else ""
 
 
+def apart_words(found: Findings) -> str:
+    """What the loop gains where pieces of a variable have lines of their own."""
+    told = [f"for each {one.apart.piece} bytes of {one.name} it gains {one.run.gain:.2f}" for one in found.aparts
+            if one.run.gain is not None]
+    return f" With a line of its own {listed(told)}." if told else ""
+
+
 def held_words(found: Findings) -> str:
     """What the loop gains where each load waits for the earlier epochs that store to its line, where that is something
     else."""
@@ -208,7 +217,8 @@ def dearest_words(found: Findings) -> str:
 
 
 # What is told of further runs, one behind the other: what may help, and what may cost
-FURTHER: list[Callable[[Findings], str]] = [allowed_words, wait_words, held_words, dearest_words]
+FURTHER: list[Callable[[Findings], str]] = [allowed_words, wait_words, apart_words, held_words,
+                                                dearest_words]
 
 
 # --- What holds it back ------------------------------------------------------
