@@ -7,7 +7,8 @@ from loops.gains import Gain
 
 # The highest cost of each action that is tried, as by `gain --even-at`
 MOST_TRIED = 60
-# Unasked they are tried of a loop that takes at most so many steps on one core: 61 runs of it take a few seconds.
+# Unasked they are tried of a loop that takes at most so many steps on one core. At the rates of bench/even that takes
+# seconds, and no minutes.
 SHORT = 20_000
 # What the loop gains where each action costs so many steps more
 Tried = Callable[[int], Gain]
