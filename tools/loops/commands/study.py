@@ -94,6 +94,8 @@ def locked(folder: Path) -> int:
 
 def plot(study: Study, folder: Path, place: int, costs: str | None) -> str:
     """The plot of what loops gain at these costs, which is kept as gains.svg too, or with the costs' place."""
+    if not study.plan.gain:
+        return ""
     lines_in = folder / "gains" / str(place)
     lines_in.mkdir(parents=True, exist_ok=True)
     words = []

@@ -129,7 +129,7 @@ def words_up_to(top: float) -> list[str]:
 
 def further_digits(loops: list[Loop], scale: Scale) -> int:
     """How many digits more than three the longest word of a tick has."""
-    return max(0, *(len(words_up_to(scale.top(loop))[-1]) - len("100 %") for loop in loops))
+    return max([0, *(len(words_up_to(scale.top(loop))[-1]) - len("100 %") for loop in loops)])
 
 
 def panel(axes: Axes, loop: Loop, stores: Stores, scale: Scale) -> None:

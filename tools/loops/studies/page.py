@@ -77,8 +77,9 @@ def page(plan: Plan, rows: list[Row], plots: list[tuple[str | None, str]]) -> st
     title = (f"A study of {len(plan.loops)} loop{'s' * (len(plan.loops) != 1)}, {len(rows):,} "
              f"run{'s' * (len(rows) != 1)}")
     names = shown_names(rows)
-    stopped = "".join(f"<p>{said(row['loop'])} on {row['cores']} cores, {row['schedule']}: {said(row['stopped'])}</p>\n"
-                      for row in rows if row["stopped"])
+    stopped = "".join(f"<p>{said(row['loop'])} on {row['cores']} cores, {row['schedule']}"
+                      f"{f' at {said(costs)}' if costs else ''}: {said(row['stopped'])}</p>\n"
+                      for row in rows if row["stopped"] for costs in [row["costs"]])
     style, script = ((HERE / name).read_text(encoding="utf-8") for name in ("page.css", "page.js"))
     return ('<!DOCTYPE html>\n<html lang="en"><head><meta charset="utf-8"><meta name="viewport" '
             f'content="width=device-width"><title>{title}</title>\n'
