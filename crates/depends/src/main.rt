@@ -4,7 +4,7 @@
 
 use std::alloc::Global;
 use std::process::ExitCode;
-use trace_commands::{ROOM, words_given};
+use trace_commands::{ROOM, spelled_words_given};
 use work::work;
 
 mod ahead;
@@ -18,7 +18,7 @@ mod text;
 mod work;
 
 fn main(rt: HostRuntime) -> ExitCode {
-    let status = match words_given(&rt) {
+    let status = match spelled_words_given(&rt) {
         Ok(words) => work(
             rt.alloc(),
             words.as_slice(),

@@ -7,7 +7,7 @@
 use homefree::MOST_ROOM;
 use std::alloc::Global;
 use std::process::ExitCode;
-use trace_commands::words_given;
+use trace_commands::spelled_words_given;
 use work::work;
 
 mod even_lines;
@@ -25,7 +25,7 @@ mod work;
 const ROOM: u32 = MOST_ROOM;
 
 fn main(rt: HostRuntime) -> ExitCode {
-    let status = match words_given(&rt) {
+    let status = match spelled_words_given(&rt) {
         Ok(words) => work(
             rt.alloc(),
             words.as_slice(),

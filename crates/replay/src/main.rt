@@ -6,10 +6,10 @@ use all_schedules::work;
 use core_threads::Open;
 use std::alloc::Global;
 use std::process::ExitCode;
-use trace_commands::{ROOM, words_given};
+use trace_commands::{ROOM, spelled_words_given};
 
 fn main(rt: HostRuntime) -> ExitCode {
-    let status = match words_given(&rt) {
+    let status = match spelled_words_given(&rt) {
         Ok(words) => work(
             &rt,
             rt.alloc(),

@@ -7,5 +7,6 @@ pub mod Program
 -- Addresses and stores, as words write them.
 pub mod Addresses
 pub mod Stores
+pub mod Apart
 -- What the law says.
 pub mod Laws

@@ -2,6 +2,7 @@
 #![tactic(auto)]
 
 mod address;
+mod apart;
 mod audit;
 pub mod laws;
 mod outcome;
@@ -14,9 +15,12 @@ mod traced;
 mod write;
 
 pub use address::address_in;
+pub use apart::spelled;
 pub use audit::{do_audit, verdict_line, verdict_of};
 pub use outcome::{CommandStop, Outcome, Verdict};
-pub use program::{ROOM, first_word, number_up_to_16, only_number, words_given};
+pub use program::{
+    ROOM, first_word, number_up_to_16, only_number, spelled_words_given, words_given,
+};
 pub use report::{print_open_report, print_report};
 pub use seq::do_seq;
 pub use store::{MachineAsked, Store, store_named};

@@ -3,8 +3,10 @@ ghost use Rattle.std.specs.Prelude.{◌≡◌, [], ◌∷◌, IfErr, IfSome, Mat
 ghost use Rattle.trace_commands.specs.Outcome as spec;
 ghost use Rattle.trace_commands.specs.Program as program;
 
+use crate::apart::spelled;
 use crate::outcome::{CommandStop, Outcome};
 use rv32_image::number_in;
+use std::alloc::Global;
 use std::convert::AsStr;
 use std::env::Env;
 use std::{env, io};
@@ -29,6 +31,16 @@ pub fn words_given<R: Env + Alloc>(rt: &R) -> Result<Vec<String<R::A>, R::A>, Ou
             .map_err(|_| Outcome::Stopped(CommandStop::NoMemory))?;
     }
     Ok(words)
+}
+
+/// The same words with `--apart ADDR:LENGTH:PIECE` spelled out, as `spelled` does it.
+///
+/// `Usage`: one is no UTF-8, and so no word of a program. `Stopped`: memory ran out.
+pub fn spelled_words_given<R: Env + Alloc<A = Global>>(rt: &R) -> Result<Vec<String>, Outcome>
+    ensures { IfErr result spec.IsNoWords }
+{
+    let words = words_given(rt)?;
+    spelled(rt.alloc(), words.as_slice()).map_err(|_| Outcome::Stopped(CommandStop::NoMemory))
 }
 
 /// The number of cores or of turns that a word writes, 1 to 16. None: another word.

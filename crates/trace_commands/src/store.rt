@@ -162,7 +162,7 @@ fn with_apart(asked: MachineAsked, apart: Apart) -> Option<MachineAsked>
 }
 
 /// The bytes apart that `ADDR:LENGTH:PIECE` writes.
-fn apart_in(text: &[u8]) -> Option<Apart>
+pub(crate) fn apart_in(text: &[u8]) -> Option<Apart>
     ensures { result ≡ spec.apart_of (pieces 58 text.now) }
 {
     let (address, rest) = cut(text, b':');

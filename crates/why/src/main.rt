@@ -5,10 +5,10 @@
 use conflict_text::work;
 use std::alloc::Global;
 use std::process::ExitCode;
-use trace_commands::words_given;
+use trace_commands::spelled_words_given;
 
 fn main(rt: HostRuntime) -> ExitCode {
-    let status = match words_given(&rt) {
+    let status = match spelled_words_given(&rt) {
         Ok(words) => work(
             rt.alloc(),
             words.as_slice(),
