@@ -10,6 +10,7 @@ out, and a line says so. Exits with 1 where a check failed.
 
 import re
 import sys
+from argparse import ArgumentTypeError
 from collections.abc import Callable, Iterator
 from functools import partial
 from pathlib import Path
@@ -19,6 +20,8 @@ from common import ROOT, Check, Part, Script, beside, called, differs, left_out
 sys.path.insert(0, str(ROOT / "tools"))
 sys.dont_write_bytecode = True
 
+from loops import Unreadable, read_image  # noqa: E402
+from loops.aparts import named_apart, store_apart  # noqa: E402
 from loops.stores import BY_VERSION, KEYS, BadStore, Machine, Store, is_store  # noqa: E402
 
 # A loop of memory that is no whole number of lines of 64 bytes, and one whose memory is; both in version 1.
@@ -64,6 +67,22 @@ REFUSED = [
 UNFIT = ["caches:apart=000000fc:8:4", "caches:apart=00000100:4:4", "caches:apart=00000000:260:4",
          "caches:apart=fffffffc:4:4", "caches:apart=00000004:4294967292:4", "caches:apart=00000040:16:20"]
 
+# What `--apart` says behind the words of a store, and behind which other words it is refused.
+VALUE = "00000040:16:4"
+APART = ["--apart", VALUE]
+NO_APART = [["--apart"], ["--apart", "00000040:16"], ["--apart", "40:16:4"], ["--apart", f"{VALUE},sets=8"],
+            ["--apart", f"{VALUE}:4"], ["--apart", f"apart={VALUE}"], ["--apart", ""], [*APART, *APART], [VALUE],
+            ["-apart", VALUE], [f"--apart={VALUE}"]]
+# Variables of an image, the store that is named, the variable and the bytes of its pieces, and the store that is meant.
+VARIABLES = "# flags 0000003e 5\n# ns::x 00000080 4\n"
+MEANT = [(None, "flags:4", "caches:apart=0000003c:8:4"), ("caches", "flags:8", "caches:apart=0000003c:8:8"),
+         ("caches:sets=8", "ns::x:16", "caches:sets=8,apart=00000080:4:16"), ("caches:ways=1", None, "caches:ways=1"),
+         ("plain", None, "plain"), (None, None, None)]
+NOT_MEANT = [("caches", "other:4", "no remark of the image names a variable other"),
+             ("plain", "flags:4", "'plain:apart=0000003c:8:4' names no store"),
+             ("caches:apart=00000080:4:4", "flags:4", "names no store"), ("caches", "flags:6", "names no store"),
+             ("caches:line=16", "flags:20", "names no store")]
+
 
 def outcome(program: Path, words: list[str], text: str) -> tuple[str, str, int]:
     done = called([program, *words], text)
@@ -94,6 +113,24 @@ def tools() -> Iterator[Check]:
     yield ("the set of an address",
            differs([Machine.of_word("caches:line=64,sets=8").set_of(at) for at in (0, 63, 64, 511, 512)],
                    [0, 0, 1, 7, 0]))
+
+
+def tools_apart() -> Iterator[Check]:
+    """What the package makes of a variable that lies apart."""
+    image = read_image(VARIABLES + EVEN)
+    for store, word, meant in MEANT:
+        got = store_apart(store, None if word is None else named_apart(word), lambda: image)
+        yield f"{store} with {word} apart", differs(got, meant)
+    for given, word, wrong in NOT_MEANT:
+        try:
+            yield f"{given} with {word} apart", f"is {store_apart(given, named_apart(word), lambda: image)}"
+        except Unreadable as told:
+            yield f"{given} with {word} apart", None if wrong in str(told) else str(told)
+    for word in ("flags", "flags:", ":4", "flags:x", "flags:-4", "flags:04"):
+        try:
+            yield f"{word!r} is no variable with bytes", f"is {named_apart(word)}"
+        except ArgumentTypeError:
+            yield f"{word!r} is no variable with bytes", None
 
 
 def one_home() -> Iterator[Check]:
@@ -142,6 +179,28 @@ def program(name: str, path: Path) -> Iterator[Check]:
                differs(outcome(path, words, text.replace(EVEN, ODD)), ("", "usage\n", 2)))
 
 
+def spelled(name: str, path: Path) -> Iterator[Check]:
+    """`--apart` is short for the key of each store of caches, and where there is none for such a store."""
+    calls = {name: CALLS[name], **(ALL_OF_REPLAY if name == "replay" else {})}
+    for called_so, words_of in calls.items():
+        # A run on threads is another one each time.
+        first = 1 if called_so == "threads" else 0
+        for word, meant in (("caches", f"caches:apart={VALUE}"), ("caches:sets=8", f"caches:sets=8,apart={VALUE}")):
+            words, text = words_of(word)
+            place, wanted = words.index(word), outcome(path, *words_of(meant))[first:]
+            alone = [*words[:place], *APART, *words[place + 1:]]
+            before = [*words[:place], *APART, *words[place:]]
+            for told in ([*words, *APART], before, *([alone] if word == "caches" else [])):
+                yield (f"{name}, {called_so}, spells {' '.join(told)}",
+                       differs(outcome(path, told, text)[first:], wanted))
+        words, text = words_of("caches")
+        for further in NO_APART:
+            yield (f"{name}, {called_so}, refuses {' '.join(further)!r}",
+                   differs(outcome(path, [*words, *further], text), ("", "usage\n", 2)))
+        words, text = words_of(f"caches:apart={VALUE}")
+        yield f"{name}, {called_so}, has it once", differs(outcome(path, [*words, *APART], text), ("", "usage\n", 2))
+
+
 def printed(name: str, path: Path) -> Iterator[Check]:
     """The word as it was given, in the lines of `gain` and `depends`, in their order."""
     words = ["caches:ways=2,sets=4", "plain", "caches", "caches:line=16"]
@@ -157,13 +216,13 @@ def printed(name: str, path: Path) -> Iterator[Check]:
 
 def main() -> int:
     script = Script()
-    parts: list[Part] = [tools, one_home]
+    parts: list[Part] = [tools, tools_apart, one_home]
     for name in CALLS:
         path = beside(script.command(), name)
         if path is None or not path.is_file():
             left_out(f"the words of {name}", "it wasn't built beside the program that is tested")
             continue
-        parts += [partial(program, name, path),
+        parts += [partial(program, name, path), partial(spelled, name, path),
                   *([partial(printed, name, path)] if name in ("gain", "depends") else [])]
     script.run(*parts)
     return script.ended()

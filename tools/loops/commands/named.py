@@ -1,15 +1,16 @@
 """The report of which conflicts rolled back, or what epochs need of one another, with the names of variables, source
 lines and instructions.
 
-Usage: tools/named [--say] [--store STORE] [--why COMMAND] < IMAGE_AND_TRACE
-       tools/named --depends [--cores N] [--store STORE] < IMAGE
+Usage: tools/named [--say] [--store STORE] [--apart NAME:BYTES] [--why COMMAND] < IMAGE_AND_TRACE
+       tools/named --depends [--cores N] [--store STORE] [--apart NAME:BYTES] < IMAGE
 
 Standard input is what `./why` reads: an image, and below it a trace (tools/trace makes it of a run). The report is that
 of `./why`, or COMMAND. Its `hurt` and `also` lines end with the name of their first byte, as `bins+4`, `pair` lines
 with the variables, and `pc` lines with FILE:LINE and the instruction; `-` stands where the image's remarks
 (tools/image-of writes them) name none. Below the lines of the caches stands `name NAME rollbacks N lost N true N silent
 N false N buffer N` of each variable, heaviest first. With --say a remark below each violation says it in English.
---store says over what the run was, as `caches:sets=64,ways=4`, and stands above the report.
+--store says over what the run was, as `caches:sets=64,ways=4`, and stands above the report; with --apart each BYTES of
+the variable NAME have lines of their own in these caches.
 
 With --depends the input is an image, and the lines are those that `./depends` prints of it on up to N cores, as many as
 its version allows without that, over --store alone where it is said. `dep` lines end with the variables from the lowest
@@ -22,6 +23,7 @@ import argparse
 import sys
 from collections.abc import Iterable, Iterator
 
+from loops.aparts import add_apart, store_apart
 from loops.endings import tool
 from loops import Conflicts, Dependences, Image, Programs, Stopped, Unreadable, Violation, read_image, read_traced
 from loops.conflicts import KINDS, OfPair, Part, Place
@@ -121,14 +123,16 @@ def lines_of(text: str, given: argparse.Namespace) -> Iterator[str]:
     """All lines of the output."""
     if given.depends:
         image = read_image(text)
+        store = store_apart(given.store, given.apart, lambda: image)
         yield from dependence_lines(image, Programs().depends(text, given.cores or image.most_cores,
-                                                              *([given.store] if given.store else [])))
+                                                              *([store] if store else [])))
         return
-    report = Programs(why_command=given.why).why(text, given.store)
+    store = store_apart(given.store, given.apart, lambda: read_traced(text).image)
+    report = Programs(why_command=given.why).why(text, store)
     traced = read_traced(text)
-    if given.store:
-        yield f"# store {given.store}"
-    yield from named(Run(traced, report, store_of(given.store, traced.image.version)), report, given.say)
+    if store:
+        yield f"# store {store}"
+    yield from named(Run(traced, report, store_of(store, traced.image.version)), report, given.say)
 
 
 @tool
@@ -137,6 +141,7 @@ def main() -> int:
                                                  "one another, with names.")
     parser.add_argument("--say", action="store_true", help="each violation in English too")
     add_store(parser, "what the run was over")
+    add_apart(parser)
     parser.add_argument("--why", metavar="COMMAND", help="the program that writes the report (./why)")
     parser.add_argument("--depends", action="store_true",
                         help="the input is an image, and what ./depends prints of it has names")

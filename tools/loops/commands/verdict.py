@@ -1,26 +1,26 @@
 """Says in English what a loop gains at even speed on so many cores, what holds it back, at which lines of the source,
 and what usually helps.
 
-Usage: tools/verdict IMAGE [--cores N] [--store STORE] [--even-at] [--max-lost PERCENT] [--min-gain G] [--build]
-[-- WORD ..]
+Usage: tools/verdict IMAGE [--cores N] [--store STORE] [--apart NAME:BYTES] [--even-at] [--max-lost PERCENT]
+[--min-gain G] [--build] [-- WORD ..]
 
 What it gains is what `gain` says, of one instruction a step on each core and no latency; what holds it back is what
 `why` says of the runs that `replay even plain N` and `replay even STORE N` print: over the plain store first, since
 waiting for the caches may hide what epochs need of one another. STORE is the caches that it speaks of, those of the
-image's version where it isn't said. Where large caches gain something else it says so, and where the plain store gains
-and they don't, which are the first to gain as much. Where its dependences allow a fifth more than it gains it says so.
-Where it loses steps, it says what it gains where one of the loads that lost most waits until its epoch is the first;
-and where that is something else, what it gains where each load waits for the earlier epochs that store to its line.
-Where lines are shared falsely, it says what it gains where one of the variables there has lines of its own. It says up
-to which cost of communication it takes fewer steps than the loop in order. For that `gain` is called up to 61 times:
-unasked of loops that take up to 20,000 steps on one core, else with --even-at.
-Where `depends` is built it says whether anything can roll back at all, on any schedule, and what an epoch needs
-earliest of another. Where neighbours of an array share lines it proposes --chunk of the tool that made the image,
-tools/image-of or tools/loops-of; the words behind `--` are those by which it did, and with them it measures what that
-gains. Limits are of the run over caches: how many hundredths of the steps of all cores may be lost, and what the loop
-has to gain. The status is 0 within the limits, 5 past them, and 6 where the loop ends in a fault; where a program
-refuses the image or is stopped, its line comes on standard error, and its status is that of this program. It builds no
-program unless `--build` says so.
+image's version where it isn't said, and with --apart each BYTES of the variable NAME have lines of their own in them.
+Where large caches gain something else it says so, and where the plain store gains and they don't, which are the first
+to gain as much. Where its dependences allow a fifth more than it gains it says so. Where it loses steps, it says what
+it gains where one of the loads that lost most waits until its epoch is the first; and where that is something else,
+what it gains where each load waits for the earlier epochs that store to its line. Where lines are shared falsely, it
+says what it gains where one of the variables there has lines of its own. It says up to which cost of communication it
+takes fewer steps than the loop in order. For that `gain` is called up to 61 times: unasked of loops that take up to
+20,000 steps on one core, else with --even-at. Where `depends` is built it says whether anything can roll back at all,
+on any schedule, and what an epoch needs earliest of another. Where neighbours of an array share lines it proposes
+--chunk of the tool that made the image, tools/image-of or tools/loops-of; the words behind `--` are those by which it
+did, and with them it measures what that gains. Limits are of the run over caches: how many hundredths of the steps of
+all cores may be lost, and what the loop has to gain. The status is 0 within the limits, 5 past them, and 6 where the
+loop ends in a fault; where a program refuses the image or is stopped, its line comes on standard error, and its status
+is that of this program. It builds no program unless `--build` says so.
 """
 
 import argparse
@@ -29,6 +29,7 @@ import sys
 import textwrap
 from pathlib import Path
 
+from loops.aparts import add_apart, store_apart
 from loops.endings import tool
 from loops import Programs, Stopped, Unreadable, read_image
 from loops.images import there
@@ -66,7 +67,8 @@ def asked_of(programs: Programs, given: argparse.Namespace) -> Asked:
     except Unreadable:
         programs.gain(text, given.cores)        # says what is wrong with it
         raise
-    return Asked(programs, text, image, Store.of_word(given.store, image.version), given.cores)
+    word = there(store_apart(given.store, given.apart, lambda: image))
+    return Asked(programs, text, image, Store.of_word(word, image.version), given.cores)
 
 
 def findings(programs: Programs, given: argparse.Namespace, words: list[str]) -> Findings | str:
@@ -116,6 +118,7 @@ def options_of(words: list[str]) -> tuple[argparse.Namespace, list[str]]:
                         help="the status is 5 where more of the steps of all cores are lost")
     parser.add_argument("--min-gain", type=float, metavar="G", help="the status is 5 where the loop gains less")
     add_store(parser, "the caches that it speaks of, those of the image's version where it isn't said", "caches")
+    add_apart(parser)
     add_build(parser)
     add_version(parser)
     given = parser.parse_args(own)

@@ -1,13 +1,15 @@
 """A page that steps through a run turn by turn, with the caches at each turn, on standard output. It stands alone and
 asks nothing of the network.
 
-Usage: tools/view [--store STORE] [--cores N] [--from TURN] [--to TURN] [--why COMMAND] < INPUT > RUN.html
+Usage: tools/view [--store STORE] [--apart NAME:BYTES] [--cores N] [--from TURN] [--to TURN] [--why COMMAND]
+                  < INPUT > RUN.html
 
 Standard input is what `./replay steps` takes: an image, and below it the trace of a run, or lines of turns, which need
---cores. STORE is `plain`, `caches`, or caches of another size, as `caches:sets=64,ways=4`. A page has at most 10,000
-turns: of a longer run --from and --to say which, and the page says what it leaves out. What `./why`, or COMMAND, says
-of a rollback stands beside its turn. Remarks of the image, as tools/image-of writes them, name variables and source
-lines. Where a program refuses the input, its line comes on standard error, and its status is that of this program.
+--cores. STORE is `plain`, `caches`, or caches of another size, as `caches:sets=64,ways=4`; with --apart each BYTES of
+the variable NAME have lines of their own. A page has at most 10,000 turns: of a longer run --from and --to say which,
+and the page says what it leaves out. What `./why`, or COMMAND, says of a rollback stands beside its turn. Remarks of
+the image, as tools/image-of writes them, name variables and source lines. Where a program refuses the input, its line
+comes on standard error, and its status is that of this program.
 """
 
 import argparse
@@ -17,9 +19,11 @@ from collections.abc import Iterable, Iterator
 from itertools import takewhile
 from pathlib import Path
 
+from loops.aparts import add_apart, store_apart
 from loops.endings import tool
-from loops import Entry, Programs, Stopped, Violation, iter_steps, read_image
+from loops import Entry, Programs, Stopped, Unreadable, Violation, iter_steps, read_image
 from loops.conflicts import Attempt
+from loops.images import there
 from loops.programs import add_build, ended
 from loops.runs import cores_of, entry_of
 from loops.stores import Store, add_store
@@ -59,7 +63,8 @@ def shown(programs: Programs, given: argparse.Namespace, room: Path) -> str:
     source, traced = room / "input", room / "traced"
     keep_input(source)
     image = image_in(iter_lines(source))
-    turns, lines = Turns(given.first, given.last, MOST_TURNS), programs.step_lines(source, given.store, given.cores)
+    store = there(store_apart(given.store, given.apart, lambda: read_image(image)))
+    turns, lines = Turns(given.first, given.last, MOST_TURNS), programs.step_lines(source, store, given.cores)
     for step in iter_steps(lines):
         turns.take(step)
     turns.end()
@@ -67,13 +72,13 @@ def shown(programs: Programs, given: argparse.Namespace, room: Path) -> str:
     hurts = {entry.place for one in turns.shown for entry in one.step.entries if entry.what == "hurt"}
     violations: dict[int, Violation] = {}
     lanes = Lanes(turns.moments, *turns.bounds)
-    for one in programs.iter_why(traced, given.store, attempts=True):
+    for one in programs.iter_why(traced, store, attempts=True):
         if isinstance(one, Violation) and one.place in hurts:
             violations[one.place] = one
         elif isinstance(one, Attempt):
             lanes.take(one)
     told = read_image(image)
-    run = Told(told, Store.of_word(given.store, told.version), named_entries(traced, violations.values()))
+    run = Told(told, Store.of_word(store, told.version), named_entries(traced, violations.values()))
     return page(page_data(run, turns, lanes, cores, violations))
 
 
@@ -82,6 +87,7 @@ def main() -> int:
     parser = argparse.ArgumentParser(description="A page that steps through a run turn by turn, with the caches at "
                                                  "each turn.")
     add_store(parser, "the store that the run is over, caches without it", "caches")
+    add_apart(parser)
     parser.add_argument("--cores", type=int, metavar="N",
                         help="how many cores the lines of turns are for; a trace says it itself")
     parser.add_argument("--from", type=int, default=0, metavar="TURN", dest="first",
@@ -97,5 +103,8 @@ def main() -> int:
     except Stopped as stopped:
         sys.stderr.write(stopped.line)
         return stopped.status
+    except Unreadable as wrong:
+        print(f"view: {wrong}", file=sys.stderr)
+        return 2
     sys.stdout.write(told)
     return 0

@@ -4,6 +4,7 @@ from collections import Counter
 from collections.abc import Callable
 from dataclasses import dataclass, replace
 
+from loops.aparts import WORD, apart_of
 from loops.gains import Gain
 from loops.images import Variable, there
 from loops.stores import Apart, Machine
@@ -12,8 +13,6 @@ from .chunks import apart as neighbours
 from .losses import Losses
 
 MOST_LINES = 2
-# Bytes of a word: what lies apart is whole words.
-WORD = 4
 # What the loop gains over caches, by the machine
 Tried = Callable[[Machine], Gain]
 
@@ -55,15 +54,9 @@ def piece_of(losses: Losses, variable: Variable) -> int:
     return next((stride for stride in strides if stride % WORD == 0 and stride <= losses.machine.line), WORD)
 
 
-def apart_of(losses: Losses, variable: Variable) -> Apart:
-    """A variable, with the rest of its first and last word, in such pieces."""
-    first, end = variable.address // WORD * WORD, -(-(variable.address + variable.length) // WORD) * WORD
-    return Apart(first, end - first, piece_of(losses, variable))
-
-
 def parted(losses: Losses, tried: Tried) -> list[Parted]:
     """Of the variable that lost most in each of the lines that lost most by false sharing, what the loop gains where it
     lies apart."""
     variables = {one.name: one for line in lines_of(losses) for one in variables_of(losses, line)[:1]}
-    parts = [(one.name, apart_of(losses, one)) for one in variables.values()]
+    parts = [(one.name, apart_of(one, piece_of(losses, one))) for one in variables.values()]
     return [Parted(name, part, tried(replace(losses.machine, apart=part))) for name, part in parts]
