@@ -47,6 +47,7 @@ ROWS = 21
 SECONDS = 120
 MADE = ("runs.csv", "pairs.csv", "manifest.json", "page.html")
 IMAGE = "[loops]\na = 'counter.image'\n"
+NAMED = "[loops]\na = 'counter.image'\nb = 'named.image'\n"
 # What is refused, and the words of the reason.
 REFUSED = [
     ("cores = [1]\n", "loops is missing"), ("[loops]\n", "loops: {} is refused; wanted is a table of loops"),
@@ -76,6 +77,14 @@ REFUSED = [
     *((f"costs = ['bus=1', '{word}']\n" + IMAGE, f"costs[1]: '{word}' says no costs; such are KEY=N,..")
       for word in ("", "bus", "disk=1", "bus=01", "bus=-1", "bus=1000001", "bus=1,miss=1", "miss=1,miss=2", "hold=",
                    "hold=1,hold=2", "hold=1000001", "bus=1 --hold 1", "bus=1; touch X")),
+    ("apart = 'count:4'\n" + IMAGE, "wanted is a list of variables"),
+    ("apart = ['count:4', 'count:4']\n" + IMAGE, "each once"), ("apart = [4]\n" + IMAGE, "apart[0]: 4"),
+    ("apart = ['count']\n" + IMAGE, "apart[0]: 'count' isn't NAME:BYTES"),
+    ("apart = ['count:4', 'other; touch X:4']\n" + NAMED, "apart[1]: no loop names the variable of other; touch X:4"),
+    ("stores = ['plain']\napart = ['count:4']\n" + NAMED, "apart[0]: no loop names the variable"),
+    ("apart = ['count:6']\n" + NAMED, "apart[0]: 'caches:apart=00000040:4:6' names no store"),
+    ("stores = ['caches:apart=00000040:4:4']\napart = ['count:4']\n" + NAMED, "names no store"),
+    ("schedules = ['threads']\napart = ['count:4']\n" + NAMED, "apart: a run on threads is over the caches"),
     ("schedules = ['seeded']\nheld = true\n" + IMAGE, 'held: asked of runs at even speed, and schedules has no "even"'),
     ("schedules = ['threads']\ncosts = ['bus=1']\n" + IMAGE, "costs: asked of runs at even speed"),
 ]
@@ -83,6 +92,10 @@ REFUSED = [
 # tests/held.tsv.
 DEAR = ('cores = [1, 4]\nstores = ["caches"]\nheld = true\ncosts = ["bus=10", "bus=10,hold=10"]\ngain = 4\n[loops]\n'
         'own_counters = "own_counters.image"\n')
+# A variable that lies apart: of own_counters over caches and of padded_counters the steps, as tests/gain.txt has them.
+APART = ('cores = [2, 4]\napart = ["counter:4"]\n[loops]\nown_counters = "own_counters.image"\ncounter = '
+         '"counter.image"\n')
+TAKES, PADDED = {"2": "440", "4": "428"}, {"2": "232", "4": "116"}
 SETS = {"bus10": "bus=10", "bus10b": "bus=10,hold=10"}
 COLUMNS = "steps order busy handling memory queue lost_steps dropped_steps waiting idle restarts".split()
 PARTS = "useful_steps busy handling memory queue lost_steps dropped_steps waiting held idle".split()
@@ -150,6 +163,7 @@ def rows_made(out: Path) -> dict[str, int]:
 
 def refused(folder: Path) -> Results:
     """(what it shows, what is wrong or None)"""
+    (folder / "named.image").write_text("# count 00000040 4\n" + (folder / "counter.image").read_text())
     for text, words in REFUSED:
         said, status = study(folder, text, None)
         right = (status == 2 and words in said and not (folder / "out").exists() and not (folder / "X").exists()
@@ -275,6 +289,23 @@ def dear(folder: Path, programs: Path) -> Results:
     left = [path.name for path in sorted(out.glob("gains*.svg"))]
     yield ("costs less run nothing", None if status == 0 and rows_made(out) == before and len(table(out)) == 8
            and left == ["gains-1.svg", "gains.svg"] else f"{said!r}, {status}, {left}")
+
+
+def aparts(folder: Path, programs: Path) -> Results:
+    """Runs in which a variable lies apart: those of a loop that has it take what the loop takes that pads it."""
+    said, status = study(folder, APART, programs)
+    yield "a variable that lies apart", None if (said, status) == ("", 0) else f"{said!r}, {status}"
+    steps = {(row["loop"], row["store"], row["apart"], row["cores"]): row["steps"] for row in table(folder / "out")
+             if row["loop"] == "own_counters"}
+    yield "what it takes", differs(steps, {
+        ("own_counters", store, apart, cores): known for cores in ("2", "4")
+        for store, apart, known in (("caches", "", TAKES[cores]), ("plain", "", PADDED[cores]),
+                                    ("caches:apart=00000040:16:4", "counter:4", PADDED[cores]))})
+    others = [row["store"] for row in table(folder / "out") if row["loop"] == "counter"]
+    yield "a loop without the variable", differs(others, ["caches", "plain"] * 2)
+    page = (folder / "out" / "page.html").read_text()
+    yield ("the column of its page",
+           None if ">apart</button>" in page and "<td>counter:4</td>" in page else "isn't there")
 
 
 def wait_for(out: Path, rows: int, run: subprocess.Popen[str] | subprocess.Popen[bytes]) -> None:
@@ -456,7 +487,7 @@ def main() -> int:
     script = Script()
     with tempfile.TemporaryDirectory() as room:
         programs = furnished(Path(room), script.command())
-        parts = [plans, studied, grown, dear, stopped, misused, on_a_cluster, failing]
+        parts = [plans, studied, grown, dear, aparts, stopped, misused, on_a_cluster, failing]
         lacks = lacking(programs)
         if lacks:
             left_out("studies", lacks)

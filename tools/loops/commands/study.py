@@ -12,6 +12,7 @@ FILE.toml has, for example:
     seeds = [1, 2, 3]
     held = true                         # at even speed also where loads wait for what earlier epochs store
     costs = ["bus=10", "miss=20,line=20,hold=5"]    # and also where turns cost so much
+    apart = ["bins:4"]                  # and over caches where each 4 bytes of this variable have a line of their own
     gain = 8                            # plots of what each loop gains on up to 8 cores
     [loops]
     histogram = "histogram.image"

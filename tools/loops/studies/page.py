@@ -13,15 +13,16 @@ from .plans import Plan
 
 HERE = Path(__file__).resolve().parent
 KEYS = ["loop", "version", "store", "cores", "schedule"]
-SHOWN = [*KEYS, "costs", "seed", "ending", "steps", "gain", "order", "busy", "handling", "memory", "queue", "held",
-         "committed", "useful", "rollbacks", "lost", "dropped", "true", "silent", "false", "buffer"]
-# Those that are there where some run has them: of runs in which turns cost something, and in which loads wait
-WHERE_THERE = {"costs", "order", "busy", "handling", "memory", "queue", "held"}
+SHOWN = [*KEYS, "apart", "costs", "seed", "ending", "steps", "gain", "order", "busy", "handling", "memory", "queue",
+         "held", "committed", "useful", "rollbacks", "lost", "dropped", "true", "silent", "false", "buffer"]
+# Those that are there where some run has them: of runs in which a variable lies apart, turns cost something, or loads
+# wait
+WHERE_THERE = {"apart", "costs", "order", "busy", "handling", "memory", "queue", "held"}
 # Of these the least, the middle and the most over the seeds.
 SPREAD = ["steps", "gain", "rollbacks", "lost"]
 # A word is sorted as a word, and these are numbers.
 ORDER = "The order is what the loop takes in order, where turns cost as much. "
-WORDS = {"loop", "store", "schedule", "costs", "ending"}
+WORDS = {"loop", "store", "schedule", "apart", "costs", "ending"}
 
 
 def said(value: object) -> str:

@@ -5,13 +5,17 @@ import itertools
 import json
 import sys
 import tomllib
-from collections.abc import Callable
-from dataclasses import asdict, dataclass, field
+from argparse import ArgumentTypeError
+from collections.abc import Callable, Iterator
+from dataclasses import asdict, dataclass, field, replace
+from functools import cache
 from pathlib import Path
 from typing import Any
 
-from loops import Unreadable, read_image
+from loops import Image, Unreadable, read_image
+from loops.aparts import named_apart, store_apart
 from loops.costs import BadCosts, costs_words
+from loops.images import there
 from loops.stores import BadStore, asked_by
 from loops.texts import shown, text_in
 
@@ -38,6 +42,11 @@ class Cell:
     schedule: str
     seed: int | None
     costs: str | None
+    apart: str | None                   # the variable that lies apart in the store, and the bytes of its pieces
+
+
+# A store, and what lies apart in it for the plan
+Over = tuple[str, str | None]
 
 
 @dataclass
@@ -51,15 +60,29 @@ class Plan:
     seeds: list[int] = field(default_factory=lambda: [1])
     held: bool = False                                          # also the runs at even speed in which loads wait
     costs: list[str] = field(default_factory=list)              # at which those are run too, besides at none
+    apart: list[str] = field(default_factory=list)              # variables that lie apart in further caches
     gain: int = 0                                               # up to so many cores; 0 asks for no plots
     texts: dict[str, bytes] = field(default_factory=dict)       # the images' own, by the names
 
     def cells(self) -> list[Cell]:
         """The runs, loops first."""
-        found = []
-        for loop, version, cores, schedule in itertools.product(self.loops, self.versions, self.cores, self.paces()):
-            found += [Cell(loop, version, store, cores, schedule, seed, costs)
-                      for store, seed, costs in itertools.product(*self.ways(schedule))]
+        return [cell for loop in self.loops for cell in self.cells_of(loop, self.stores_of(loop))]
+
+    def cells_of(self, loop: str, stores: list[Over]) -> Iterator[Cell]:
+        """The runs of a loop over these stores."""
+        for version, cores, schedule in itertools.product(self.versions, self.cores, self.paces()):
+            for (store, apart), seed, costs in itertools.product(*self.ways(schedule, stores)):
+                yield Cell(loop, version, store, cores, schedule, seed, costs, apart)
+
+    def stores_of(self, loop: str) -> list[Over]:
+        """The stores of a loop: those of the plan, and of caches the same where a variable that it has lies apart."""
+        found: list[Over] = [(store, None) for store in self.stores]
+        if self.apart:
+            image = image_of(self.texts[loop])
+            names = {one.name for one in image.variables}
+            found += [(there(store_apart(store, named_apart(word), lambda: image)), word)
+                      for word in self.apart if named_apart(word).name in names
+                      for store in self.stores if store != "plain"]
         return found
 
     def paces(self) -> list[str]:
@@ -67,10 +90,10 @@ class Plan:
         return [one for schedule in self.schedules
                 for one in (PACED if schedule == "even" and self.held else [schedule])]
 
-    def ways(self, schedule: str) -> tuple[list[str], list[int | None], list[str | None]]:
-        """The stores, seeds and costs of a schedule."""
-        return (["caches"] if schedule == "threads" else self.stores, [*self.seeds] if schedule == "seeded" else [None],
-                self.all_costs() if schedule in PACED else [None])
+    def ways(self, schedule: str, stores: list[Over]) -> tuple[list[Over], list[int | None], list[str | None]]:
+        """Of these stores those of a schedule, its seeds and costs."""
+        return ([("caches", None)] if schedule == "threads" else stores,
+                [*self.seeds] if schedule == "seeded" else [None], self.all_costs() if schedule in PACED else [None])
 
     def all_costs(self) -> list[str | None]:
         """At which costs runs at even speed are run: first at none."""
@@ -78,14 +101,21 @@ class Plan:
 
     def count(self) -> int:
         """How many runs there are."""
-        ways = sum(len(stores) * len(seeds) * len(costs) for stores, seeds, costs in map(self.ways, self.paces()))
-        return len(self.loops) * len(self.versions) * len(self.cores) * ways
+        ways = [self.ways(schedule, stores) for stores in map(self.stores_of, self.loops) for schedule in self.paces()]
+        return (len(self.versions) * len(self.cores)
+                * sum(len(stores) * len(seeds) * len(costs) for stores, seeds, costs in ways))
 
     def text(self) -> dict[str, Any]:
         """The table, without the images' texts."""
         told = asdict(self)
         del told["texts"]
         return told
+
+
+@cache
+def image_of(text: bytes) -> Image:
+    """The image of a text, read once."""
+    return read_image(text_in(text))
 
 
 # --- Reading -----------------------------------------------------------------
@@ -136,12 +166,12 @@ def wrong_places(told: dict[str, Any]) -> list[str]:
 
 
 def wrong_words(field_name: str, words: list[str], check: Callable[[str], object]) -> list[str]:
-    """The words of a field that name no store or say no costs, a line each."""
+    """The words of a field that name no store, say no costs or name no variable, a line each."""
     lines = []
     for place, word in enumerate(words):
         try:
             check(word)
-        except (BadStore, BadCosts) as wrong:
+        except (BadStore, BadCosts, ArgumentTypeError) as wrong:
             lines.append(f"{field_name}[{place}]: {wrong}")
     return lines
 
@@ -150,9 +180,25 @@ def wrong_fields(told: dict[str, Any]) -> list[str]:
     """What the schema can't say: words of stores and costs, and what is asked of runs that there aren't."""
     lines = wrong_words("stores", told.get("stores", []), asked_by)
     lines += wrong_words("costs", told.get("costs", []), costs_words)
+    lines += wrong_words("apart", told.get("apart", []), named_apart)
     if "even" not in told.get("schedules", ["even"]):
         lines += [f'{name}: asked of runs at even speed, and schedules has no "even"' for name in ("held", "costs")
                   if told.get(name)]
+    if told.get("apart") and told.get("schedules") == ["threads"]:
+        lines.append("apart: a run on threads is over the caches of the image's version, and no others are run")
+    return lines
+
+
+def wrong_aparts(plan: Plan) -> list[str]:
+    """The variables that no loop has, and those that can't lie apart in some of the stores, a line each."""
+    lines = []
+    for place, word in enumerate(plan.apart):
+        alone = replace(plan, apart=[word])
+        try:
+            if all(len(alone.stores_of(loop)) == len(plan.stores) for loop in plan.loops):
+                lines.append(f"apart[{place}]: no loop names the variable of {shown(word)}, or none runs over caches")
+        except Unreadable as wrong:
+            lines.append(f"apart[{place}]: {wrong}")
     return lines
 
 
@@ -188,12 +234,15 @@ def read_plan(path: Path) -> Plan:
     if lines:
         raise BadPlan("\n".join(lines))
     plan = Plan(**told)
-    if plan.count() > MOST_CELLS:
-        raise BadPlan(f"there would be {plan.count():,} runs, more than {MOST_CELLS:,}")
     for name, image in plan.loops.items():
         try:
             plan.texts[name] = image_at(path.parent / image, name)
         except (OSError, ValueError) as wrong:
             raise BadPlan(f"loops.{name}: {shown(str(wrong))}" if not isinstance(wrong, BadPlan)
                           else str(wrong)) from None
+    lines = wrong_aparts(plan)
+    if lines:
+        raise BadPlan("\n".join(lines))
+    if plan.count() > MOST_CELLS:
+        raise BadPlan(f"there would be {plan.count():,} runs, more than {MOST_CELLS:,}")
     return plan
