@@ -4,7 +4,7 @@ use Rattle.std.proofs.lemmas.Bool.{cases_eq}
 use Rattle.std.proofs.Math.Path.{fun_ext}
 use Rattle.std.proofs.lemmas.List.{append-nil}
 use Rattle.rv32_exec.specs.declared.sequential.End.{End}
-use Rattle.violations.specs.View.{StoreView, Waits}
+use Rattle.violations.specs.View.{IsSettled, StoreView, Waits}
 use Rattle.violations.specs.Calls.{Call}
 use Rattle.homefree.specs.declared.answer.Answer.{Answer}
 use Rattle.homefree.specs.declared.answer.Answer.TheVariants.{Go, Again, Left, Over, Stopped}
@@ -126,7 +126,7 @@ no_more makes view waits keeps pacing p0 p first old xs drives = subst (λ l. Ev
 
 module _ {S : Type 0} (makes : S → Call → S → Type 0) (view : S → StoreView) (waits : S → Waits) (keeps : S → Type 0) (pacing : Pacing S) (p0 p : Pace) (first old mid : Driver S) (xs ys : List ℕ) (t : Turn)
     (drives : (rest : List ℕ) (result : Result (Option Ran) TurnFault) (new : Driver S) → Evenly makes view waits keeps pacing p old rest result new → Evenly makes view waits keeps pacing p0 first (xs ++ rest) result new)
-    (is_first : IsFirst p.free (prices_in pacing.pricing waits old.book p.held) (dues (held_in pacing.holds old.book p.held) p.clocks) old.book.cores t) (kept : IsKept pacing.pricing keeps old.book.store)
+    (is_first : IsFirst p.free (prices_in pacing.pricing waits old.book p.held) (dues (held_in pacing.holds old.book p.held) p.clocks) old.book.cores t) (kept : IsSettled (view old.book.store) × IsKept pacing.pricing keeps old.book.store)
     (pushed : ys ≡ xs ++ t.core ∷ []) where
   by_turn : (answer : Result Answer TurnFault) (rest : List ℕ) (result : Result (Option Ran) TurnFault) (new : Driver S) → TurnedWith makes view waits old t.core (p.held t.core) answer mid
       → EndsOrGoes old mid pacing.queues p t answer rest result new (Evenly makes view waits keeps pacing (pace_after old mid pacing.queues p t (go_answer answer)) mid rest result new)

@@ -152,7 +152,7 @@ module _ {S : Type 0} (makes : S → Call → S → Type 0) (alike : S → S →
       (λ a d d'. run_fixed_by (pace_after old mid queues p t a) mid new mid' new' rest rest' result result' step.twins d d' done done') answer more second_more))
     where
       prices_are : prices_in (pricing_of prices costs) waits old'.book p.held ≡ prices_in (pricing_of prices costs) waits old.book p.held
-      prices_are = fun_ext (λ k. one_price keeps alike prices waits fixed old.book old'.book twins.books p.held costs k kept kept')
+      prices_are = fun_ext (λ k. one_price keeps alike prices waits fixed old.book old'.book twins.books p.held costs k kept.1 kept'.1)
 
       turn_is : t' ≡ t
       turn_is = one_first p.free (prices_in (pricing_of prices costs) waits old.book p.held) (dues (held_in holds old.book p.held) p.clocks) old.book.cores t t' first

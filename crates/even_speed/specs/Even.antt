@@ -9,7 +9,7 @@ use Rattle.rv32_exec.specs.Hart.{HartState}
 use Rattle.rv32_exec.specs.NextEvent.{next_event}
 use Rattle.spec_history.specs.FlatState.{FlatState}
 use Rattle.spec_history.specs.Replay.{replay}
-use Rattle.violations.specs.View.{StoreView, Waits}
+use Rattle.violations.specs.View.{IsSettled, StoreView, Waits}
 use Rattle.violations.specs.Calls.{Call}
 use Rattle.homefree.specs.declared.answer.Answer.{Answer}
 use Rattle.homefree.specs.declared.answer.Answer.TheVariants.{Go, Again, Left, Over, Stopped}
@@ -74,7 +74,7 @@ prices_in pricing waits b hands k = price_in pricing waits b (replay b.image b.c
 abbrev pub price_by : {S : Type 0} → (S → Prices) → (S → Waits) → Option Costs → BookView S → (ℕ → Option HartState) → ℕ → Price
 price_by prices waits costs b hands = prices_in (pricing_of prices costs) waits b hands
 
--- the store keeps what every one of its kind does, on which the prices stand
+-- the store keeps what every one of its kind does, on which the prices stand, beside what every store keeps
 abbrev pub IsKept : {S : Type 0} → Option (Pricing S) → (S → Type 0) → S → Type 0
 IsKept (Some p) keeps s = keeps s
 IsKept None keeps s = Unit {0}
@@ -139,7 +139,7 @@ abbrev pub Evenly : {S : Type 0} → (S → Call → S → Type 0) → (S → St
 Evenly makes view waits keeps paced p old [] result new = (new ≡ old) × (result ≡ Ok None)
 Evenly {S} makes view waits keeps paced p old (core ∷ rest) result new =
     (t : Turn) × (mid : Driver S) × (answer : Result Answer TurnFault)
-    × (t.core ≡ core) × IsKept paced.pricing keeps old.book.store
+    × (t.core ≡ core) × (IsSettled (view old.book.store) × IsKept paced.pricing keeps old.book.store)
     × IsFirst p.free (prices_in paced.pricing waits old.book p.held) (dues (held_in paced.holds old.book p.held) p.clocks) old.book.cores t
     × TurnedWith makes view waits old t.core (p.held t.core) answer mid
     × EndsOrGoes old mid paced.queues p t answer rest result new

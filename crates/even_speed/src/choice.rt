@@ -1,5 +1,6 @@
 //! Whose turn is next.
 ghost use Rattle.std.specs.Prelude.{◌≡◌, ◌≤◌, ◌<◌, ◌+◌, ℕ, length, Option, Some};
+ghost use Rattle.violations.specs.View.{IsSettled};
 ghost use Rattle.homefree.specs.Held.{HaveArrived, harts_of};
 ghost use Rattle.even_speed.specs.Clocks as spec;
 ghost use Rattle.even_speed.specs.Even.{price_by};
@@ -16,7 +17,7 @@ use crate::terms::Terms;
 use homefree::Book;
 use rv32_exec::Arrived;
 use turn_costs::{Costs, PricedStore, actions_of};
-use violations::MAX_CORES;
+use violations::{EpochStore, MAX_CORES};
 
 /// The turn that begins first among those of the cores that are due and aren't held; of several the one that was due first, and of these
 /// that of the core with the lowest number. Only turns that may be that one are priced.
@@ -34,6 +35,7 @@ pub(crate) fn next_turn<S: PricedStore>(
     requires waiting { (k : ℕ) → k < book.now.cores → is_held_in waiting.now k ≡ held_in (holding_of terms.now.holds) book.now (harts_of hands.now) k }
     ensures next { IsNext free.now (price_by S.prices S.waits terms.now.costs book.now (harts_of hands.now))
         (spec.dues (held_in (holding_of terms.now.holds) book.now (harts_of hands.now)) (spec.clock_at clocks.now.items)) book.now.cores result }
+    ensures settled { IsSettled (S.view book.now.store) }
     ensures kept { S.keeps book.now.store }
 {
     look_store(book);
@@ -45,11 +47,13 @@ pub(crate) fn next_turn<S: PricedStore>(
     found
 }
 
-/// What every store of its kind keeps: this call does nothing.
+/// What every store keeps, and every one of its kind: this call does nothing.
 fn look_store<S: PricedStore>(book: &Book<S>)
-    ensures { S.keeps book.now.store }
+    ensures settled { IsSettled (S.view book.now.store) }
+    ensures kept { S.keeps book.now.store }
 {
     book.look();
+    book.store().look();
     book.store().look_inside();
 }
 

@@ -123,14 +123,14 @@ returns-in_default-next_turn-clause-driven g c =
 pub returns-in_err-answer-clause-evenly : goal.returns-in_err-answer-clause-evenly
 returns-in_err-answer-clause-evenly g c =
     let p = err_from_is_err_and c.from_residual.result c.from_residual.ensures.1 in
-    rw (p.1, p.2) (ends_fault g.S.EpochStore.makes g.S.EpochStore.view g.S.EpochStore.waits g.S.PricedStore.keeps (pacing_of g.S.PricedStore.prices c.args.terms.now) at_first (record { held = harts_of c.loop-taken.held; clocks = clock_at c.loop-taken.clocks.items; free = c.loop-taken.free }) (driver c.args.book.now c.args.shares.now) (driver c.loop-taken.book c.loop-taken.shares) (driver c.step.new.book c.step.new.shares) c.loop-taken.schedule.items c.push.new.self.items c.in-Some.turn c.loop-taken.invariant.drives c.in-Some.ensures.next.0 (kept_by g.S.PricedStore.prices g.S.PricedStore.keeps c.loop-taken.book.store c.args.terms.now.costs c.next_turn.ensures.kept) c.in-Ok-push.ensures.items
+    rw (p.1, p.2) (ends_fault g.S.EpochStore.makes g.S.EpochStore.view g.S.EpochStore.waits g.S.PricedStore.keeps (pacing_of g.S.PricedStore.prices c.args.terms.now) at_first (record { held = harts_of c.loop-taken.held; clocks = clock_at c.loop-taken.clocks.items; free = c.loop-taken.free }) (driver c.args.book.now c.args.shares.now) (driver c.loop-taken.book c.loop-taken.shares) (driver c.step.new.book c.step.new.shares) c.loop-taken.schedule.items c.push.new.self.items c.in-Some.turn c.loop-taken.invariant.drives c.in-Some.ensures.next.0 (c.next_turn.ensures.settled, kept_by g.S.PricedStore.prices g.S.PricedStore.keeps c.loop-taken.book.store c.args.terms.now.costs c.next_turn.ensures.kept) c.in-Ok-push.ensures.items
     c.in_err-answer.field-0.0 c.in_err-answer.ensures.turned)
 
 pub returns-in_err-answer-clause-driven : goal.returns-in_err-answer-clause-driven
 returns-in_err-answer-clause-driven g c =
     let p = err_from_is_err_and c.from_residual.result c.from_residual.ensures.1 in
     rw (p.1, p.2) (unless_driven g.S.EpochStore.makes g.S.EpochStore.view g.S.EpochStore.waits g.S.PricedStore.keeps (pacing_of g.S.PricedStore.prices c.args.terms.now) at_first (driver c.args.book.now c.args.shares.now) (driver c.step.new.book c.step.new.shares) c.push.new.self.items (Err c.in_err-answer.field-0.0)
-    (ends_fault g.S.EpochStore.makes g.S.EpochStore.view g.S.EpochStore.waits g.S.PricedStore.keeps (pacing_of g.S.PricedStore.prices c.args.terms.now) at_first (record { held = harts_of c.loop-taken.held; clocks = clock_at c.loop-taken.clocks.items; free = c.loop-taken.free }) (driver c.args.book.now c.args.shares.now) (driver c.loop-taken.book c.loop-taken.shares) (driver c.step.new.book c.step.new.shares) c.loop-taken.schedule.items c.push.new.self.items c.in-Some.turn c.loop-taken.invariant.drives c.in-Some.ensures.next.0 (kept_by g.S.PricedStore.prices g.S.PricedStore.keeps c.loop-taken.book.store c.args.terms.now.costs c.next_turn.ensures.kept) c.in-Ok-push.ensures.items
+    (ends_fault g.S.EpochStore.makes g.S.EpochStore.view g.S.EpochStore.waits g.S.PricedStore.keeps (pacing_of g.S.PricedStore.prices c.args.terms.now) at_first (record { held = harts_of c.loop-taken.held; clocks = clock_at c.loop-taken.clocks.items; free = c.loop-taken.free }) (driver c.args.book.now c.args.shares.now) (driver c.loop-taken.book c.loop-taken.shares) (driver c.step.new.book c.step.new.shares) c.loop-taken.schedule.items c.push.new.self.items c.in-Some.turn c.loop-taken.invariant.drives c.in-Some.ensures.next.0 (c.next_turn.ensures.settled, kept_by g.S.PricedStore.prices g.S.PricedStore.keeps c.loop-taken.book.store c.args.terms.now.costs c.next_turn.ensures.kept) c.in-Ok-push.ensures.items
     c.in_err-answer.field-0.0 c.in_err-answer.ensures.turned))
 
 pub note_from-requires-clause-seats : goal.note_from-requires-clause-seats
@@ -206,7 +206,7 @@ account_of-account-requires-clause-sound g c = turned_end c.loop-taken._taken c.
 
 pub returns-in-Over-clause-evenly : goal.returns-in-Over-clause-evenly
 returns-in-Over-clause-evenly g c = subst (λ n. Evenly g.S.EpochStore.makes g.S.EpochStore.view g.S.EpochStore.waits g.S.PricedStore.keeps (pacing_of g.S.PricedStore.prices c.args.terms.now) at_first (driver c.args.book.now c.args.shares.now) c.push.new.self.items (Ok (Some (record { end = c.in-Over.end; steps = n; account = c.account_of-account.result }))) (driver c.step.new.book c.step.new.shares)) (sym c.over-steps.ensures)
-    (ends_over g.S.EpochStore.makes g.S.EpochStore.view g.S.EpochStore.waits g.S.PricedStore.keeps (pacing_of g.S.PricedStore.prices c.args.terms.now) at_first (record { held = harts_of c.loop-taken.held; clocks = clock_at c.loop-taken.clocks.items; free = c.loop-taken.free }) (driver c.args.book.now c.args.shares.now) (driver c.loop-taken.book c.loop-taken.shares) (driver c.step.new.book c.step.new.shares) c.loop-taken.schedule.items c.push.new.self.items c.in-Some.turn c.loop-taken.invariant.drives c.in-Some.ensures.next.0 (kept_by g.S.PricedStore.prices g.S.PricedStore.keeps c.loop-taken.book.store c.args.terms.now.costs c.next_turn.ensures.kept) c.in-Ok-push.ensures.items
+    (ends_over g.S.EpochStore.makes g.S.EpochStore.view g.S.EpochStore.waits g.S.PricedStore.keeps (pacing_of g.S.PricedStore.prices c.args.terms.now) at_first (record { held = harts_of c.loop-taken.held; clocks = clock_at c.loop-taken.clocks.items; free = c.loop-taken.free }) (driver c.args.book.now c.args.shares.now) (driver c.loop-taken.book c.loop-taken.shares) (driver c.step.new.book c.step.new.shares) c.loop-taken.schedule.items c.push.new.self.items c.in-Some.turn c.loop-taken.invariant.drives c.in-Some.ensures.next.0 (c.next_turn.ensures.settled, kept_by g.S.PricedStore.prices g.S.PricedStore.keeps c.loop-taken.book.store c.args.terms.now.costs c.next_turn.ensures.kept) c.in-Ok-push.ensures.items
     c.in_ok-answer.answer c.in-Over.end (clock_at c.set_clock.new.clocks.items) c.account_of-account.result c.in-Over.is
     (λ k. (last_are (driver c.loop-taken.book c.loop-taken.shares) (driver c.step.new.book c.step.new.shares) (clock_at c.be_late.new.clocks.items) (clock_at c.set_clock.new.clocks.items) c.in-Some.turn c.in_ok-answer.answer (not (c.totals.result.restarts == c.totals-restarts.result.restarts)) c.executed_by-executed.result
     (same_restarts c.totals.result c.totals-restarts.result c.step.new.book.totals c.loop-taken.book.totals c.totals.ensures c.totals-restarts.ensures)
@@ -218,7 +218,7 @@ returns-in-Over-clause-evenly g c = subst (λ n. Evenly g.S.EpochStore.makes g.S
 pub returns-in-Over-clause-driven : goal.returns-in-Over-clause-driven
 returns-in-Over-clause-driven g c =
     is_driven g.S.EpochStore.makes g.S.EpochStore.view g.S.EpochStore.waits g.S.PricedStore.keeps (pacing_of g.S.PricedStore.prices c.args.terms.now) at_first (driver c.args.book.now c.args.shares.now) (driver c.step.new.book c.step.new.shares) c.push.new.self.items (Ok (Some (record { end = c.in-Over.end; steps = c.over-steps.result; account = c.account_of-account.result }))) (subst (λ n. Evenly g.S.EpochStore.makes g.S.EpochStore.view g.S.EpochStore.waits g.S.PricedStore.keeps (pacing_of g.S.PricedStore.prices c.args.terms.now) at_first (driver c.args.book.now c.args.shares.now) c.push.new.self.items (Ok (Some (record { end = c.in-Over.end; steps = n; account = c.account_of-account.result }))) (driver c.step.new.book c.step.new.shares)) (sym c.over-steps.ensures)
-    (ends_over g.S.EpochStore.makes g.S.EpochStore.view g.S.EpochStore.waits g.S.PricedStore.keeps (pacing_of g.S.PricedStore.prices c.args.terms.now) at_first (record { held = harts_of c.loop-taken.held; clocks = clock_at c.loop-taken.clocks.items; free = c.loop-taken.free }) (driver c.args.book.now c.args.shares.now) (driver c.loop-taken.book c.loop-taken.shares) (driver c.step.new.book c.step.new.shares) c.loop-taken.schedule.items c.push.new.self.items c.in-Some.turn c.loop-taken.invariant.drives c.in-Some.ensures.next.0 (kept_by g.S.PricedStore.prices g.S.PricedStore.keeps c.loop-taken.book.store c.args.terms.now.costs c.next_turn.ensures.kept) c.in-Ok-push.ensures.items
+    (ends_over g.S.EpochStore.makes g.S.EpochStore.view g.S.EpochStore.waits g.S.PricedStore.keeps (pacing_of g.S.PricedStore.prices c.args.terms.now) at_first (record { held = harts_of c.loop-taken.held; clocks = clock_at c.loop-taken.clocks.items; free = c.loop-taken.free }) (driver c.args.book.now c.args.shares.now) (driver c.loop-taken.book c.loop-taken.shares) (driver c.step.new.book c.step.new.shares) c.loop-taken.schedule.items c.push.new.self.items c.in-Some.turn c.loop-taken.invariant.drives c.in-Some.ensures.next.0 (c.next_turn.ensures.settled, kept_by g.S.PricedStore.prices g.S.PricedStore.keeps c.loop-taken.book.store c.args.terms.now.costs c.next_turn.ensures.kept) c.in-Ok-push.ensures.items
     c.in_ok-answer.answer c.in-Over.end (clock_at c.set_clock.new.clocks.items) c.account_of-account.result c.in-Over.is
     (λ k. (last_are (driver c.loop-taken.book c.loop-taken.shares) (driver c.step.new.book c.step.new.shares) (clock_at c.be_late.new.clocks.items) (clock_at c.set_clock.new.clocks.items) c.in-Some.turn c.in_ok-answer.answer (not (c.totals.result.restarts == c.totals-restarts.result.restarts)) c.executed_by-executed.result
     (same_restarts c.totals.result c.totals-restarts.result c.step.new.book.totals c.loop-taken.book.totals c.totals.ensures c.totals-restarts.ensures)
@@ -292,11 +292,11 @@ returns-in-Over-clause-accounts g c =
     }
 
 pub returns-in-Stopped-clause-evenly : goal.returns-in-Stopped-clause-evenly
-returns-in-Stopped-clause-evenly g c = ends_stopped g.S.EpochStore.makes g.S.EpochStore.view g.S.EpochStore.waits g.S.PricedStore.keeps (pacing_of g.S.PricedStore.prices c.args.terms.now) at_first (record { held = harts_of c.loop-taken.held; clocks = clock_at c.loop-taken.clocks.items; free = c.loop-taken.free }) (driver c.args.book.now c.args.shares.now) (driver c.loop-taken.book c.loop-taken.shares) (driver c.step.new.book c.step.new.shares) c.loop-taken.schedule.items c.push.new.self.items c.in-Some.turn c.loop-taken.invariant.drives c.in-Some.ensures.next.0 (kept_by g.S.PricedStore.prices g.S.PricedStore.keeps c.loop-taken.book.store c.args.terms.now.costs c.next_turn.ensures.kept) c.in-Ok-push.ensures.items
+returns-in-Stopped-clause-evenly g c = ends_stopped g.S.EpochStore.makes g.S.EpochStore.view g.S.EpochStore.waits g.S.PricedStore.keeps (pacing_of g.S.PricedStore.prices c.args.terms.now) at_first (record { held = harts_of c.loop-taken.held; clocks = clock_at c.loop-taken.clocks.items; free = c.loop-taken.free }) (driver c.args.book.now c.args.shares.now) (driver c.loop-taken.book c.loop-taken.shares) (driver c.step.new.book c.step.new.shares) c.loop-taken.schedule.items c.push.new.self.items c.in-Some.turn c.loop-taken.invariant.drives c.in-Some.ensures.next.0 (c.next_turn.ensures.settled, kept_by g.S.PricedStore.prices g.S.PricedStore.keeps c.loop-taken.book.store c.args.terms.now.costs c.next_turn.ensures.kept) c.in-Ok-push.ensures.items
     c.in_ok-answer.answer c.in-Stopped.field-0 c.in-Stopped.is c.in_ok-answer.ensures.turned
 
 pub returns-in-Stopped-clause-driven : goal.returns-in-Stopped-clause-driven
-returns-in-Stopped-clause-driven g c = is_driven g.S.EpochStore.makes g.S.EpochStore.view g.S.EpochStore.waits g.S.PricedStore.keeps (pacing_of g.S.PricedStore.prices c.args.terms.now) at_first (driver c.args.book.now c.args.shares.now) (driver c.step.new.book c.step.new.shares) c.push.new.self.items (Ok None) (ends_stopped g.S.EpochStore.makes g.S.EpochStore.view g.S.EpochStore.waits g.S.PricedStore.keeps (pacing_of g.S.PricedStore.prices c.args.terms.now) at_first (record { held = harts_of c.loop-taken.held; clocks = clock_at c.loop-taken.clocks.items; free = c.loop-taken.free }) (driver c.args.book.now c.args.shares.now) (driver c.loop-taken.book c.loop-taken.shares) (driver c.step.new.book c.step.new.shares) c.loop-taken.schedule.items c.push.new.self.items c.in-Some.turn c.loop-taken.invariant.drives c.in-Some.ensures.next.0 (kept_by g.S.PricedStore.prices g.S.PricedStore.keeps c.loop-taken.book.store c.args.terms.now.costs c.next_turn.ensures.kept) c.in-Ok-push.ensures.items
+returns-in-Stopped-clause-driven g c = is_driven g.S.EpochStore.makes g.S.EpochStore.view g.S.EpochStore.waits g.S.PricedStore.keeps (pacing_of g.S.PricedStore.prices c.args.terms.now) at_first (driver c.args.book.now c.args.shares.now) (driver c.step.new.book c.step.new.shares) c.push.new.self.items (Ok None) (ends_stopped g.S.EpochStore.makes g.S.EpochStore.view g.S.EpochStore.waits g.S.PricedStore.keeps (pacing_of g.S.PricedStore.prices c.args.terms.now) at_first (record { held = harts_of c.loop-taken.held; clocks = clock_at c.loop-taken.clocks.items; free = c.loop-taken.free }) (driver c.args.book.now c.args.shares.now) (driver c.loop-taken.book c.loop-taken.shares) (driver c.step.new.book c.step.new.shares) c.loop-taken.schedule.items c.push.new.self.items c.in-Some.turn c.loop-taken.invariant.drives c.in-Some.ensures.next.0 (c.next_turn.ensures.settled, kept_by g.S.PricedStore.prices g.S.PricedStore.keeps c.loop-taken.book.store c.args.terms.now.costs c.next_turn.ensures.kept) c.in-Ok-push.ensures.items
     c.in_ok-answer.answer c.in-Stopped.field-0 c.in-Stopped.is c.in_ok-answer.ensures.turned)
 
 pub wake_all-requires-clause-at : goal.wake_all-requires-clause-at
@@ -364,7 +364,7 @@ loop-taken-preserved g c =
       sound = subst (λ n. AreSound (c.loop-taken._taken + 1) n c.after-free.result c.match-answer.clocks.items) (sym same.cores)
           (subst (λ f. AreSound (c.loop-taken._taken + 1) c.loop-taken.book.cores f c.match-answer.clocks.items) (sym free) on.sounds);
       calm = λ none. subst (λ f. f.order ≤ f.began) (sym free) (order_calm c.loop-taken.free c.in-Some.turn c.in_ok-answer.answer ((free_spent (price_by g.S.PricedStore.prices g.S.EpochStore.waits c.args.terms.now.costs c.loop-taken.book (harts_of c.loop-taken.held)) c.in-Some.turn c.args.terms.now.costs c.in-Some.ensures.next.0.price (free_price g.S.PricedStore.prices g.S.EpochStore.waits c.loop-taken.book (harts_of c.loop-taken.held) c.in-Some.turn.core c.args.terms.now.costs)) none) (c.loop-taken.invariant.calm none) (passes c.loop-taken._taken c.loop-taken.book.cores c.loop-taken.free c.loop-taken.clocks.items c.loop-taken.invariant.sound (held_in (holding_of c.args.terms.now.holds) c.loop-taken.book (harts_of c.loop-taken.held)) (price_by g.S.PricedStore.prices g.S.EpochStore.waits c.args.terms.now.costs c.loop-taken.book (harts_of c.loop-taken.held)) c.in-Some.turn c.in-Some.ensures.next.0));
-      drives = goes_on g.S.EpochStore.makes g.S.EpochStore.view g.S.EpochStore.waits g.S.PricedStore.keeps (pacing_of g.S.PricedStore.prices c.args.terms.now) at_first (record { held = harts_of c.loop-taken.held; clocks = clock_at c.loop-taken.clocks.items; free = c.loop-taken.free }) (driver c.args.book.now c.args.shares.now) (driver c.loop-taken.book c.loop-taken.shares) (driver c.step.new.book c.step.new.shares) c.loop-taken.schedule.items c.push.new.self.items c.in-Some.turn c.loop-taken.invariant.drives c.in-Some.ensures.next.0 (kept_by g.S.PricedStore.prices g.S.PricedStore.keeps c.loop-taken.book.store c.args.terms.now.costs c.next_turn.ensures.kept) c.in-Ok-push.ensures.items
+      drives = goes_on g.S.EpochStore.makes g.S.EpochStore.view g.S.EpochStore.waits g.S.PricedStore.keeps (pacing_of g.S.PricedStore.prices c.args.terms.now) at_first (record { held = harts_of c.loop-taken.held; clocks = clock_at c.loop-taken.clocks.items; free = c.loop-taken.free }) (driver c.args.book.now c.args.shares.now) (driver c.loop-taken.book c.loop-taken.shares) (driver c.step.new.book c.step.new.shares) c.loop-taken.schedule.items c.push.new.self.items c.in-Some.turn c.loop-taken.invariant.drives c.in-Some.ensures.next.0 (c.next_turn.ensures.settled, kept_by g.S.PricedStore.prices g.S.PricedStore.keeps c.loop-taken.book.store c.args.terms.now.costs c.next_turn.ensures.kept) c.in-Ok-push.ensures.items
           c.in_ok-answer.answer next on.going on.unstopped c.in_ok-answer.ensures.harts
           (λ k. (on.are) k ∙ ap (λ (f : ℕ → Clock). clocks_after (driver c.loop-taken.book c.loop-taken.shares) (driver c.step.new.book c.step.new.shares) f c.in-Some.turn c.in_ok-answer.answer k) (fun_ext c.be_late.ensures.each)) free c.in_ok-answer.ensures.turned;
       timed = λ fresh. timed_on (is_none c.args.terms.now.costs) (driver c.loop-taken.book c.loop-taken.shares) (driver c.step.new.book c.step.new.shares) (record { held = harts_of c.loop-taken.held; clocks = clock_at c.be_late.new.clocks.items; free = at_turn c.loop-taken.free c.in-Some.turn }) c.in-Some.turn same (late_turn c.loop-taken.free (price_by g.S.PricedStore.prices g.S.EpochStore.waits c.args.terms.now.costs c.loop-taken.book (harts_of c.loop-taken.held)) (dues (held_in (holding_of c.args.terms.now.holds) c.loop-taken.book (harts_of c.loop-taken.held)) (clock_at c.loop-taken.clocks.items)) (queues_of c.args.terms.now) (clock_at c.loop-taken.clocks.items) (clock_at c.be_late.new.clocks.items) c.loop-taken.book.cores c.in-Some.turn c.in-Some.ensures.next.0 c.be_late.ensures.each) (free_spent (price_by g.S.PricedStore.prices g.S.EpochStore.waits c.args.terms.now.costs c.loop-taken.book (harts_of c.loop-taken.held)) c.in-Some.turn c.args.terms.now.costs c.in-Some.ensures.next.0.price (free_price g.S.PricedStore.prices g.S.EpochStore.waits c.loop-taken.book (harts_of c.loop-taken.held) c.in-Some.turn.core c.args.terms.now.costs)) (late_timed (is_none c.args.terms.now.costs) c.loop-taken.book (record { held = harts_of c.loop-taken.held; clocks = clock_at c.loop-taken.clocks.items; free = c.loop-taken.free }) (queues_of c.args.terms.now) (clock_at c.be_late.new.clocks.items) c.in-Some.turn (was_due c.loop-taken._taken c.loop-taken.book.cores c.loop-taken.free c.loop-taken.clocks.items c.loop-taken.invariant.sound (held_in (holding_of c.args.terms.now.holds) c.loop-taken.book (harts_of c.loop-taken.held)) (price_by g.S.PricedStore.prices g.S.EpochStore.waits c.args.terms.now.costs c.loop-taken.book (harts_of c.loop-taken.held)) c.in-Some.turn c.in-Some.ensures.next.0) (due_before c.loop-taken._taken c.loop-taken.book.cores c.loop-taken.free c.loop-taken.clocks.items c.loop-taken.invariant.sound (held_in (holding_of c.args.terms.now.holds) c.loop-taken.book (harts_of c.loop-taken.held)) (price_by g.S.PricedStore.prices g.S.EpochStore.waits c.args.terms.now.costs c.loop-taken.book (harts_of c.loop-taken.held)) c.in-Some.turn c.in-Some.ensures.next.0) (no_queue c.args.terms.now.costs c.args.terms.now.queues) c.be_late.ensures.each c.in-Some.ensures.next.0.core (c.loop-taken.invariant.timed fresh)) c.in_ok-answer.answer next c.in_ok-answer.ensures.leads on.going on.unstopped
