@@ -5,3 +5,16 @@ pub mod Extending
 pub mod Least
 -- One epoch in order, and what is kept of it.
 pub mod Running
+-- What is kept of a run at even speed so far, and how its turns change it.
+pub mod Marks
+pub mod Marking
+pub mod Owners
+pub mod Beginning
+pub mod Events
+pub mod Pathing
+pub mod Leaving
+pub mod Finishing
+pub mod Acting
+pub mod Publishing
+pub mod Turns
+pub mod Bounding
