@@ -8,8 +8,9 @@ COMMAND is a command of `trace_cli` that ends with the word `seq`; `gain`, `repl
 built beside it. Without it those of this repository are tested. Where one isn't built the test is left out, and a line
 says so. Of each of N random loops, 60 without the word, over caches of a random size: the schedule of `replay even`
 makes the same history again, so does its trace, its report is that of `seq`, `audit` finds it legal, and `why` explains
-each violation; and of a schedule drawn from a seed the same. In some of the caches bytes lie apart; `own_counters`,
-whose counters do, takes the steps of `padded_counters`. Exits with 1 where an outcome differs.
+each violation; and of a schedule drawn from a seed, and of the held run, the same. The turns of `replay held` and the
+figures of `gain --held` are those of model/held.py. In some of the caches bytes lie apart; `own_counters`, whose
+counters do, takes the steps of `padded_counters`, and those of tests/held.tsv. Exits with 1 where an outcome differs.
 """
 
 import argparse
@@ -25,7 +26,10 @@ from common import ROOT, Check, Script, beside, called, differs, left_out
 
 sys.path.insert(0, str(ROOT / "tests" / "model"))
 
-from gain import wide  # noqa: E402
+import held  # noqa: E402
+from flat_audit import entry_of  # noqa: E402
+from gain import lines_of, wide, without_held  # noqa: E402
+from rv32_seq import image_of  # noqa: E402
 from stress import loop_of  # noqa: E402
 
 KEYS = ("line", "sets", "ways", "buffer")
@@ -79,6 +83,15 @@ def of_each(figures: dict[str, list[str]]) -> dict[str, list[str]]:
     return {cores.partition(" ")[0]: one for cores, one in figures.items()}
 
 
+def held_rows(image: str) -> dict[str, list[str]]:
+    """The steps and restarts of an image's held runs over caches, by the cores, of tests/held.tsv."""
+    lines = [line.split("\t") for line in (ROOT / "tests" / "held.tsv").read_text(encoding="ascii").splitlines()
+             if not line.startswith("#")]
+    return {row["cores"]: [row["waits"], row["waiting_restarts"]]
+            for row in (dict(zip(lines[0], words)) for words in lines[1:])
+            if (row["example"], row["store"]) == (image, "caches")}
+
+
 def lying_apart(programs: dict[str, Path]) -> Iterator[Check]:
     """Counters that lie apart run as those that the program pads, and count the same as in order."""
     got = of_each(figures_of(programs["gain"], "own_counters", COUNTERS_APART))
@@ -92,6 +105,10 @@ def lying_apart(programs: dict[str, Path]) -> Iterator[Check]:
         yield (f"what own_counters makes apart on {cores} cores",
                differs((done.stdout.partition("\n")[2].partition("counts ")[0], done.stderr, done.returncode),
                        (report, "", 0)))
+    done = called([programs["gain"], "8", COUNTERS_APART, "--held"], text)
+    yield ("own_counters whose counters lie apart, held",
+           differs({row["cores"]: [row["steps"], row["restarts"]] for row in lines_of(without_held(done.stdout)[1])},
+                   {"1": ["464", "0"], **held_rows("padded_counters")}))
 
 
 # --- Random loops over random caches ---------------------------------------------
@@ -153,6 +170,23 @@ class Loop:
         found += [("why", self.unexplained(trace), [])]
         return next((f"{name}: {wrong}" for name, got, wanted in found if (wrong := differs(got, wanted))), None)
 
+    def unlike_model(self) -> str | None:
+        """What is wrong with the turns and figures of the held run, beside the model."""
+        output, _, status = self.outcome("replay", ["held", self.store, str(self.cores)])
+        if status > 1:
+            return None
+        turns, _, below = output.partition("\n")
+        entries = [entry for line in below.partition("\ntrace")[2].splitlines()[1:]
+                   if (entry := entry_of(line.encode()))]
+        try:
+            wanted = held.figures_of(image_of(self.text.encode("latin-1")), self.store, self.cores,
+                                     [int(core) for core in turns.split()[1:]], entries)
+        except held.Differs as wrong:
+            return f"held: {wrong}"
+        told = lines_of(without_held(self.outcome("gain", [str(self.cores), self.store, "--held"])[0])[1])[-1]
+        seen["steps held"] += wanted.held
+        return differs({key: told[key] for key in wanted._fields}, {key: str(n) for key, n in wanted._asdict().items()})
+
     def unexplained(self, trace: str) -> list[str]:
         """The violations that `why` has no cause for, by the machine of the run."""
         out, errors, status = self.outcome("why", [self.store], trace)
@@ -162,18 +196,25 @@ class Loop:
 
 
 def random_loops(programs: dict[str, Path], seed: str, count: int) -> Iterator[Check]:
-    """Each loop at even speed, and by a schedule that is drawn from a seed."""
+    """Each loop at even speed, by a schedule that is drawn from a seed, and as a held run."""
     loops = [Loop(programs, seed, index) for index in range(count)]
     with ThreadPoolExecutor(4) as pool:
         for index, wrong in enumerate(pool.map(lambda loop: loop.wrong("even"), loops)):
             yield f"loop {index} of seed {seed} over {loops[index].store} on {loops[index].cores} cores", wrong
         for index, wrong in enumerate(pool.map(seeded, loops)):
             yield f"loop {index} of seed {seed}, drawn", wrong
+        for index, wrong in enumerate(pool.map(held_run, loops)):
+            yield f"loop {index} of seed {seed}, held", wrong
 
 
 def seeded(loop: Loop) -> str | None:
     """The same of a drawn schedule, which may end before the loop does: then its report isn't that of `seq`."""
     return loop.wrong("seeded", loop.drawn)
+
+
+def held_run(loop: Loop) -> str | None:
+    """The same of the held run, which is that of the model."""
+    return loop.wrong("held") or loop.unlike_model()
 
 
 def main() -> int:

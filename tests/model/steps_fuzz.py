@@ -34,6 +34,7 @@ import rv32_seq  # noqa: E402
 import stress  # noqa: E402
 from common import ROOT, TOO_LONG, Check, Script, kept, left_out, to_first_failure  # noqa: E402
 from flat_audit import Core, Flat  # noqa: E402
+from places import Machine, machine_of  # noqa: E402
 from replay import program_of  # noqa: E402
 from rv32_seq import Image  # noqa: E402
 from steps_rows import NAMED, turns_of  # noqa: E402
@@ -44,32 +45,6 @@ seen: Counter[str] = Counter()
 # A place, or the end of one, by its words; and what stands there
 Place = tuple[str, ...]
 Now = list[str]
-
-
-class Machine(NamedTuple):
-    """The bytes of a line, the sets, the ways of each, the lines of a buffer, and what lies apart: the first address,
-    how many bytes, and the bytes of a piece."""
-
-    line: int
-    sets: int
-    ways: int
-    buffer: int
-    apart: tuple[int, int, int] = (0, 0, 4)
-
-    def place(self, address: int, memory: int) -> int:
-        """Where a byte lies for the caches: behind a memory of so many bytes, where it lies apart."""
-        first, length, piece = self.apart
-        if not first <= address < first + length:
-            return address
-        return memory + (address - first) // piece * self.line + (address - first) % piece
-
-    def bytes_at(self, line: int, memory: int) -> dict[int, int]:
-        """The bytes of the line at a place: by where each lies in it, its address."""
-        first, _, piece = self.apart
-        behind = first + (line - memory) // self.line * piece
-        there = range(line, line + self.line) if line < memory else range(behind, min(behind + piece, memory))
-        return {self.place(address, memory) - line: address for address in there
-                if line <= self.place(address, memory) < line + self.line}
 
 
 class Case(NamedTuple):
@@ -181,15 +156,6 @@ def check_cache(told: Told, k: int, core: Core | None, committed: bytearray, mac
     expect(f"core {k} has loaded in", loaded, {machine.place(a, len(committed)) // size * size for a in outside})
     expect(f"the buffer of core {k} has room", len(shared) <= buffer, True)
     expect(f"the buffer of core {k}", sorted(told.of("orb", k).get((), [])), sorted(shared))
-
-
-def machine_of(store: str, version: int) -> Machine:
-    """The caches of a word: those of the version, but for what the word says."""
-    usual = Machine(32, 4, 2, 8) if version == 2 else Machine(16, 4, 2, 4)
-    asked = dict(pair.split("=") for pair in store.partition(":")[2].split(",") if pair)
-    first, length, piece = asked.pop("apart", "0:0:4").split(":")
-    return usual._replace(apart=(int(first, 16), int(length), int(piece)),
-                          **{key: int(number) for key, number in asked.items()})
 
 
 def attempt_of(core: Core | None) -> Now:

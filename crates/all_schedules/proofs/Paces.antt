@@ -24,10 +24,10 @@ use Rattle.turn_costs.specs.declared.costs.Costs.{Costs}
 use Rattle.turn_costs.specs.Prices.{Prices}
 use Rattle.even_speed.specs.Even.{pacing}
 use Rattle.even_speed.specs.Held.{Holding, loads_at}
+use Rattle.dependences.specs.declared.pieces.Pieces.{Pieces}
 use Rattle.all_schedules.specs.Evenly.{IsEvenFault, MakesEvenly}
 use Rattle.all_schedules.specs.Holding.{WaitsInOrder}
 use Rattle.all_schedules.specs.Paced.{IsEvenStop, IsEvenText, IsPacedOf, IsPacedOutcome, IsPacedStop, IsPacedText, none_waits}
-use Rattle.all_schedules.specs.declared.holds.Pieces.{Pieces}
 use Rattle.all_schedules.specs.declared.paced.Pace.{Pace}
 use Rattle.all_schedules.specs.declared.paced.Pace.TheVariants.{Even, Held}
 

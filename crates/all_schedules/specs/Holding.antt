@@ -2,17 +2,12 @@
 -- Source: this project.
 use Rattle.std.specs.Prelude.{◌≡◌, ℕ, List, []}
 use Rattle.rv32_image.specs.Image.{LoadedImage}
-use Rattle.dependences.specs.Stored.{AreStores}
+use Rattle.dependences.specs.declared.pieces.Pieces.{Pieces}
+use Rattle.dependences.specs.declared.pieces.Pieces.TheVariants.{Bytes, Lines}
+use Rattle.dependences.specs.Stored.{AreStores, piece_in}
 use Rattle.trace_commands.specs.declared.store.Store.{Store}
 use Rattle.trace_commands.specs.declared.store.Store.TheVariants.{Caches, Plain}
 use Rattle.even_speed.specs.Held.{Holding, holding}
-use Rattle.all_schedules.specs.declared.holds.Pieces.{Pieces}
-use Rattle.all_schedules.specs.declared.holds.Pieces.TheVariants.{Bytes, Lines}
-
--- how many bytes a piece of memory has
-abbrev pub piece_length : Pieces → LoadedImage → ℕ
-piece_length Bytes image = 1
-piece_length Lines image = image.machine.line_length
 
 -- those that tell over a store whether a load reads what another epoch stores
 abbrev pub pieces_of : Store → Pieces
@@ -22,5 +17,5 @@ pieces_of Plain = Bytes
 -- each load waits that reads such a piece from outside, until the earlier epochs have committed that store there in order
 pub record WaitsInOrder (image : LoadedImage) (pieces : Pieces) (h : Holding) : Type 0 where
   pub stores : List (ℕ × ℕ)
-  pub are : AreStores image (piece_length pieces image) stores
-  pub is : h ≡ holding [] stores (piece_length pieces image)
+  pub are : AreStores image (piece_in pieces image) stores
+  pub is : h ≡ holding [] stores (piece_in pieces image)

@@ -1,26 +1,19 @@
 //! Which loads wait in a run.
-ghost use Rattle.std.specs.Prelude.{◌≡◌, ◌≤◌, IfOk};
+ghost use Rattle.std.specs.Prelude.{◌≡◌, IfOk};
+ghost use Rattle.dependences.specs.Stored.{piece_in};
+ghost use Rattle.even_speed.specs.Grain.{HasPieces, piece_by};
 ghost use Rattle.even_speed.specs.Held.{loads_at};
 ghost use Rattle.even_speed.specs.Holds.{holding_of};
 ghost use Rattle.all_schedules.specs.Holding as spec;
 
-use dependences::stores_in_order;
-use even_speed::Holds;
+use dependences::{Pieces, stores_in_order};
+use even_speed::{Grain, Holds};
 use rv32_exec::NoMemory;
 use rv32_image::Image;
 use std::alloc::{AllocError, Global};
 use trace_commands::Store;
 
-/// Pieces of memory.
-#[derive(Clone, Copy, Debug, PartialEq, Eq)]
-pub enum Pieces {
-    /// Bytes.
-    Bytes,
-    /// Lines of the caches of the image's machine.
-    Lines,
-}
-
-/// Those that tell over a store whether a load reads what another epoch stores.
+/// The pieces of memory that tell over a store whether a load reads what another epoch stores.
 pub fn pieces_of(store: Store) -> Pieces
     ensures { result ≡ spec.pieces_of store }
 {
@@ -37,7 +30,7 @@ pub fn holds_at(alloc: Global, addresses: &[u32]) -> Result<Holds, AllocError>
     ensures { IfOk result (λ holds. holding_of holds ≡ loads_at addresses.now) }
 {
     let addresses = Vec::from_slice(alloc, addresses)?;
-    Ok(Holds::new(addresses, Vec::new(alloc), 1))
+    Ok(Holds::new(addresses, Vec::new(alloc), Grain::Bytes))
 }
 
 /// The loads wait that read from outside a piece in which earlier epochs store in order, until these have committed.
@@ -46,18 +39,20 @@ pub fn holds_at(alloc: Global, addresses: &[u32]) -> Result<Holds, AllocError>
 pub fn holds_in_order(alloc: Global, image: &Image, pieces: Pieces) -> Result<Holds, NoMemory>
     ensures { IfOk result (λ holds. spec.WaitsInOrder image.now pieces (holding_of holds)) }
 {
-    let length = piece_length(image, pieces);
-    let stores = stores_in_order(alloc, image, length)?;
-    Ok(Holds::new(Vec::new(alloc), stores, length))
+    let stores = stores_in_order(alloc, image, pieces)?;
+    Ok(Holds::new(Vec::new(alloc), stores, grain_of(image, pieces)))
 }
 
-/// How many bytes a piece has.
-fn piece_length(image: &Image, pieces: Pieces) -> u32
-    ensures length { result ≡ spec.piece_length pieces image.now }
-    ensures some { 1 ≤ result }
+/// The pieces, as they are told without the image.
+fn grain_of(image: &Image, pieces: Pieces) -> Grain
+    ensures pieces { piece_by result ≡ piece_in pieces image.now }
+    ensures has { HasPieces result }
 {
     match pieces {
-        Pieces::Bytes => 1,
-        Pieces::Lines => image.machine().line_length,
+        Pieces::Bytes => Grain::Bytes,
+        Pieces::Lines => Grain::Lines {
+            machine: image.machine(),
+            size: image.size(),
+        },
     }
 }

@@ -33,7 +33,7 @@ pub use costs::{CostsAsked, costs_behind};
 pub use detail::Detail;
 pub use driving::drive_schedule;
 pub use even::{EvenRun, run_evenly};
-pub use holds::{Pieces, holds_at, holds_in_order, pieces_of};
+pub use holds::{holds_at, holds_in_order, pieces_of};
 pub use laws::{
     drawn_history_is_fixed, even_history_is_fixed, history_is_fixed, text_is_fixed,
     trace_is_made_again,

@@ -13,11 +13,12 @@ ghost use Rattle.all_schedules.specs.Shown.{IsShown};
 ghost use Rattle.all_schedules.specs.Paced as spec;
 
 use crate::even::run_evenly;
-use crate::holds::{Pieces, holds_at, holds_in_order};
+use crate::holds::{holds_at, holds_in_order};
 use crate::print::print_book;
 use crate::seeded::run_seeded;
 use crate::settings::Settings;
 use crate::text::push_turns;
+use dependences::Pieces;
 use even_speed::Terms;
 use homefree::{Book, TurnFault};
 use run_command::runnable;

@@ -11,6 +11,7 @@ mod lengths;
 mod lines;
 mod nearest;
 mod pairs;
+mod pieces;
 mod stores;
 mod touches;
 
@@ -20,4 +21,5 @@ pub use flow::{Dependence, dependences_in_order};
 pub use lengths::lengths_in_order;
 pub use nearest::nearest_dependence;
 pub use pairs::{PairSum, sums_by_pair};
+pub use pieces::Pieces;
 pub use stores::stores_in_order;

@@ -1,27 +1,30 @@
-ghost use Rattle.std.specs.Prelude.{◌≡◌, ℕ, ◌+◌, ◌/◌, ◌*◌, ◌<◌, ◌≤◌, ◌^◌, IfOk, OnOk, true, false, ◌++◌, ◌∷◌, [], length, slice_index};
+ghost use Rattle.std.specs.Prelude.{◌≡◌, ℕ, ◌+◌, ◌<◌, ◌≤◌, ◌^◌, IfOk, OnOk, true, false, ◌++◌, ◌∷◌, [], length, slice_index};
 ghost use Rattle.rv32_image.specs.Image.{IsImage};
 ghost use Rattle.rv32_exec.specs.declared.sequential.End.TheVariants.{Done};
 ghost use Rattle.rv32_exec.specs.Sequential.{first_epochs};
 ghost use Rattle.dependences.specs.Conflict.{IsInOrder};
 ghost use Rattle.dependences.specs.KeptPieces as spec;
-ghost use Rattle.dependences.specs.Stored.{AreStores};
+ghost use Rattle.dependences.specs.Stored.{AreStores, piece_in};
 
+use crate::pieces::Pieces;
 use memory_bytes::{read_number, write_number};
 use rv32_exec::{NoMemory, Stop, advance, loaded, start, stored};
 use rv32_image::Image;
 use std::alloc::Global;
 
-/// The pieces of memory, of so many bytes each, in which epochs store in order: each with each epoch that stores there. The byte at an address lies
-/// in the piece of that number by that size.
+/// The pieces of memory in which epochs store in order: each with each epoch that stores there.
 ///
 /// `NoMemory`: there was none for a copy of the image's bytes, a word for each piece, and the list.
-pub fn stores_in_order(alloc: Global, image: &Image, size: u32) -> Result<Vec<(u32, u32)>, NoMemory>
-    requires { 1 ≤ size }
-    ensures { IfOk result (λ stores. AreStores image.now size stores.items) }
+pub fn stores_in_order(
+    alloc: Global,
+    image: &Image,
+    pieces: Pieces,
+) -> Result<Vec<(u32, u32)>, NoMemory>
+    ensures { IfOk result (λ stores. AreStores image.now (piece_in pieces image.now) stores.items) }
 {
     let mut memory = Vec::from_slice(alloc, image.bytes()).map_err(|_| NoMemory)?;
-    let mut noted = none(alloc, (image.size() / size + 1) as usize)?;
-    run_all(image, size, memory.as_mut_slice(), &mut noted)?;
+    let mut noted = none(alloc, pieces.of(image, image.size()) as usize)?;
+    run_all(image, pieces, memory.as_mut_slice(), &mut noted)?;
     Ok(noted.list)
 }
 
@@ -46,16 +49,20 @@ fn none(alloc: Global, pieces: usize) -> Result<Noted, NoMemory>
 }
 
 /// Runs the epochs over memory, in order, and notes where they store. Nothing has been noted before.
-fn run_all(image: &Image, size: u32, memory: &mut [u8], noted: &mut Noted) -> Result<(), NoMemory>
-    requires some { 1 ≤ size }
+fn run_all(
+    image: &Image,
+    pieces: Pieces,
+    memory: &mut [u8],
+    noted: &mut Noted,
+) -> Result<(), NoMemory>
     requires memory { memory.old ≡ image.now.bytes }
-    requires long { image.now.size / size < length noted.old.last.items }
+    requires long { length noted.old.last.items ≡ piece_in pieces image.now image.now.size }
     requires list { noted.old.list.items ≡ [] }
     requires none { (a : ℕ) → slice_index noted.old.last.items a ≡ 0 }
-    ensures { IfOk result (λ done. AreStores image.now size noted.new.list.items) }
+    ensures { IfOk result (λ done. AreStores image.now (piece_in pieces image.now) noted.new.list.items) }
 {
     for epoch in 0..image.epochs() {
-        if !follow(image, size, epoch, memory, noted)? {
+        if !follow(image, pieces, epoch, memory, noted)? {
             return Ok(());
         }
     }
@@ -65,21 +72,20 @@ fn run_all(image: &Image, size: u32, memory: &mut [u8], noted: &mut Noted) -> Re
 /// Runs one epoch over memory, and notes where it stores. Answers whether the next one runs.
 fn follow(
     image: &Image,
-    size: u32,
+    pieces: Pieces,
     epoch: u32,
     memory: &mut [u8],
     noted: &mut Noted,
 ) -> Result<bool, NoMemory>
     requires limits { IsImage image.now }
-    requires some { 1 ≤ size }
     requires size { length memory.old ≡ image.now.size }
-    requires long { image.now.size / size < length noted.old.last.items }
+    requires long { length noted.old.last.items ≡ piece_in pieces image.now image.now.size }
     requires epoch { epoch < image.now.epochs }
     requires before { first_epochs image.now epoch ≡ record { end = Done epoch; bytes = memory.old } }
-    requires kept { spec.AreBefore image.now size epoch noted.old.list.items }
+    requires kept { spec.AreBefore image.now (piece_in pieces image.now) epoch noted.old.list.items }
     requires fresh { (a : ℕ) → slice_index noted.old.last.items a ≤ epoch }
     ensures long { length noted.new.last.items ≡ length noted.old.last.items }
-    ensures kept { IfOk result (λ goes_on. spec.AreBefore image.now size (epoch + 1) noted.new.list.items) }
+    ensures kept { IfOk result (λ goes_on. spec.AreBefore image.now (piece_in pieces image.now) (epoch + 1) noted.new.list.items) }
     ensures fresh { (a : ℕ) → slice_index noted.new.last.items a ≤ epoch + 1 }
     ensures goes_on { IfOk result (λ goes_on. goes_on ≡ true → first_epochs image.now (epoch + 1) ≡ record { end = Done (epoch + 1); bytes = memory.new }) }
     ensures ends { IfOk result (λ goes_on. goes_on ≡ false → IsInOrder image.now (epoch + 1) → ⊥) }
@@ -93,7 +99,7 @@ fn follow(
             }
             Stop::Store { addr, width, value } => {
                 write_number(memory, addr as usize, width, value);
-                note(noted, size, epoch, addr, width)?;
+                note(noted, image, pieces, epoch, addr, width)?;
                 hart = stored(&arrived);
             }
             Stop::Ended => return Ok(!arrived.now().exits(image)),
@@ -103,20 +109,27 @@ fn follow(
 }
 
 /// Notes a store of these bytes.
-fn note(noted: &mut Noted, size: u32, epoch: u32, addr: u32, width: u32) -> Result<(), NoMemory>
-    requires some { 1 ≤ size }
+fn note(
+    noted: &mut Noted,
+    image: &Image,
+    pieces: Pieces,
+    epoch: u32,
+    addr: u32,
+    width: u32,
+) -> Result<(), NoMemory>
+    requires limits { IsImage image.now }
     requires epoch { epoch < 2 ^ 16 }
-    requires small { addr + width < 2 ^ 32 }
-    requires long { (addr + width) / size < length noted.old.last.items }
+    requires within { addr + width ≤ image.now.size }
+    requires long { length noted.old.last.items ≡ piece_in pieces image.now image.now.size }
     requires noted { spec.AreNoted epoch noted.old.last.items noted.old.list.items }
     requires fresh { (a : ℕ) → slice_index noted.old.last.items a ≤ epoch + 1 }
     ensures long { length noted.new.last.items ≡ length noted.old.last.items }
     ensures fresh { (a : ℕ) → slice_index noted.new.last.items a ≤ epoch + 1 }
     ensures noted { OnOk result (spec.AreNoted epoch noted.new.last.items noted.new.list.items) }
-    ensures more { OnOk result (spec.AreMore epoch (spec.IsPieceOf size addr width) noted.old.list.items noted.new.list.items) }
+    ensures more { OnOk result (spec.AreMore epoch (spec.IsPieceOf (piece_in pieces image.now) addr width) noted.old.list.items noted.new.list.items) }
 {
     for i in 0..width {
-        note_piece(noted, epoch, (addr + i) / size)?;
+        note_piece(noted, epoch, pieces.of(image, addr + i))?;
     }
     Ok(())
 }

@@ -34,8 +34,8 @@ at_same xs ys moved = fun_ext (λ pc. sym (list_any-IsPermutation (λ a. a == pc
 in_same : (ss ts : List (ℕ × ℕ)) → IsPermutation ss ts → In ts ≡ In ss
 in_same ss ts moved = fun_ext (λ epoch. fun_ext (λ piece. sym (list_any-IsPermutation (λ (s : ℕ × ℕ). (s.0 == piece) && (s.1 == epoch)) ss ts moved)))
 
-pub same_holding : (xs ys : List ℕ) (ss ts : List (ℕ × ℕ)) (n : ℕ) → IsPermutation xs ys → IsPermutation ss ts → holding ys ts n ≡ holding xs ss n
-same_holding xs ys ss ts n moved stores_moved = λ i. record { places = at_same xs ys moved i; stores = in_same ss ts stores_moved i; length = n }
+pub same_holding : (xs ys : List ℕ) (ss ts : List (ℕ × ℕ)) (f : ℕ → ℕ) → IsPermutation xs ys → IsPermutation ss ts → holding ys ts f ≡ holding xs ss f
+same_holding xs ys ss ts f moved stores_moved = λ i. record { places = at_same xs ys moved i; stores = in_same ss ts stores_moved i; piece = f }
 
 -- ---- tests of numbers
 
@@ -166,7 +166,7 @@ from_homefree piece homefree x late same = elim (dec_lt x.1 homefree) [
 ]
 
 -- the first store from the homefree epoch on tells
-module _ (places : List ℕ) (xs : List (ℕ × ℕ)) (length_of : ℕ) (piece homefree epoch index : ℕ) (sorted : IsSorted pair_order xs) (split : IsSplit piece homefree xs index) where
+module _ (places : List ℕ) (xs : List (ℕ × ℕ)) (f : ℕ → ℕ) (piece homefree epoch index : ℕ) (sorted : IsSorted pair_order xs) (split : IsSplit piece homefree xs index) where
   abbrev Stores : ℕ → Bool
   Stores d = list_any (λ (s : ℕ × ℕ). (s.0 == piece) && (s.1 == d)) xs
 
@@ -214,7 +214,7 @@ module _ (places : List ℕ) (xs : List (ℕ × ℕ)) (length_of : ℕ) (piece h
   by_first x true within at is = sym (hit x within at is)
   by_first x false within at is = sym (miss (λ d there. ap (λ y. is_of piece epoch (Some y)) (get_or_default xs index d x there ∙ at) ∙ is))
 
-  pub found_stored : is_of piece epoch (slice_get xs index) ≡ is_stored (holding places xs length_of) homefree epoch piece
+  pub found_stored : is_of piece epoch (slice_get xs index) ≡ is_stored (holding places xs f) homefree epoch piece
   found_stored = elim (slice_get_cases xs index).1 [
     | inl in_it ↦ ap (is_of piece epoch) in_it.2 ∙ by_first in_it.0 (is_of piece epoch (Some in_it.0)) in_it.1 in_it.3 refl
     | inr out ↦ ap (is_of piece epoch) out.1 ∙ sym (miss (λ d within. absurd (omega (arith, within, out.0))))

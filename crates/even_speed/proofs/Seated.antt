@@ -124,8 +124,8 @@ none_stored holds none homefree epoch piece =
 
 none_read : (holds : Holding) → ((d piece : ℕ) → holds.stores d piece ≡ false) → (homefree epoch : ℕ) (own : ℕ → Option ℕ) (address width : ℕ) → reads_stored holds homefree epoch own address width ≡ false
 none_read holds none homefree epoch own address width =
-    all_fail width (λ i. is_none (own (address + i)) && is_stored holds homefree epoch ((address + i) / holds.length))
-    (λ i below. ap (λ b. is_none (own (address + i)) && b) (none_stored holds none homefree epoch ((address + i) / holds.length)) ∙ and_no (is_none (own (address + i))))
+    all_fail width (λ i. is_none (own (address + i)) && is_stored holds homefree epoch (holds.piece (address + i)))
+    (λ i below. ap (λ b. is_none (own (address + i)) && b) (none_stored holds none homefree epoch (holds.piece (address + i))) ∙ and_no (is_none (own (address + i))))
 
 -- where no load waits for stores, it doesn't matter what a core owns
 waits_same : (holds : Holding) → ((d piece : ℕ) → holds.stores d piece ≡ false) → (homefree epoch pc : ℕ) (own own' : ℕ → Option ℕ) (at : Stop) → waits_by holds homefree epoch own pc at ≡ waits_by holds homefree epoch own' pc at

@@ -1,6 +1,6 @@
 -- When a core is held: at a load that waits.
 -- Source: this project.
-use Rattle.std.specs.Prelude.{ℕ, ◌+◌, ◌/◌, Bool, false, not, is_none, nat_le, ◌==◌, ◌&&◌, ◌||◌, List, [], Option, Some, None, if◌then◌else◌}
+use Rattle.std.specs.Prelude.{ℕ, ◌+◌, Bool, false, not, is_none, nat_le, ◌==◌, ◌&&◌, ◌||◌, List, [], Option, Some, None, if◌then◌else◌}
 use Rattle.std.specs.List.{list_any}
 use Rattle.memory_bytes.specs.Maps.{nothing}
 use Rattle.rv32_image.specs.Image.{LoadedImage}
@@ -30,20 +30,20 @@ pub record Holding : Type 0 where
   pub places : ℕ → Bool
   -- those of a piece of memory in which an earlier epoch stores, until it has committed: does this epoch store in this piece?
   pub stores : ℕ → ℕ → Bool
-  -- how many bytes a piece has
-  pub length : ℕ
+  -- the piece in which a byte lies
+  pub piece : ℕ → ℕ
 
 -- by a list of such addresses, and one of pieces with the epochs that store there
-abbrev pub holding : List ℕ → List (ℕ × ℕ) → ℕ → Holding
-holding addresses stores length = record {
+abbrev pub holding : List ℕ → List (ℕ × ℕ) → (ℕ → ℕ) → Holding
+holding addresses stores piece = record {
   places = λ pc. list_any (λ address. address == pc) addresses;
   stores = λ epoch piece. list_any (λ s. (s.0 == piece) && (s.1 == epoch)) stores;
-  length = length;
+  piece = piece;
 }
 
 -- the loads at these addresses alone
 abbrev pub loads_at : List ℕ → Holding
-loads_at addresses = holding addresses [] 1
+loads_at addresses = holding addresses [] (λ a. a)
 
 -- an epoch from the homefree one up to this one, without it, stores in the piece
 abbrev pub is_stored : Holding → ℕ → ℕ → ℕ → Bool
@@ -52,7 +52,7 @@ is_stored holds homefree epoch piece = any_below epoch (λ d. nat_le homefree d 
 -- of the bytes of a load, one isn't the core's own, and lies in such a piece
 abbrev pub reads_stored : Holding → ℕ → ℕ → (ℕ → Option ℕ) → ℕ → ℕ → Bool
 reads_stored holds homefree epoch own address width =
-    any_below width (λ i. is_none (own (address + i)) && is_stored holds homefree epoch ((address + i) / holds.length))
+    any_below width (λ i. is_none (own (address + i)) && is_stored holds homefree epoch (holds.piece (address + i)))
 
 abbrev pub waits_by : Holding → ℕ → ℕ → (ℕ → Option ℕ) → ℕ → Stop → Bool
 waits_by holds homefree epoch own pc (Load address width signed rd) = holds.places pc || reads_stored holds homefree epoch own address width

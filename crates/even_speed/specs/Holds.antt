@@ -1,18 +1,20 @@
 -- What the code keeps of the loads that wait.
-use Rattle.std.specs.Prelude.{◌≡◌, ℕ, ◌≤◌, ◌==◌, ◌&&◌, ◌||◌, Bool, List, [], length, not, Option, Some, None, false, nat_lt}
+use Rattle.std.specs.Prelude.{◌≡◌, ℕ, ◌==◌, ◌&&◌, ◌||◌, Bool, List, [], length, not, Option, Some, None, false, nat_lt}
 use Rattle.std.specs.List.Sorted.{IsNonDecreasing, IsSorted}
 use Rattle.std.specs.Ordering.{nat_cmp, ordering_then}
 use Rattle.std.specs.declared.cmp.Ordering.{Ordering}
+use Rattle.even_speed.specs.declared.grain.Grain.{Grain}
+use Rattle.even_speed.specs.Grain.{HasPieces, piece_by}
 use Rattle.even_speed.specs.Held.{Holding, holding}
 
--- addresses of code; pieces of memory, each with an epoch that stores there; and how many bytes a piece has
+-- addresses of code; pieces of memory, each with an epoch that stores there; and what the pieces are
 pub record HoldsView : Type 0 where
   pub places : List ℕ
   pub stores : List (ℕ × ℕ)
-  pub length : ℕ
+  pub grain : Grain
 
 abbrev pub holding_of : HoldsView → Holding
-holding_of h = holding h.places h.stores h.length
+holding_of h = holding h.places h.stores (piece_by h.grain)
 
 -- no load waits
 pub record HoldsNone (h : HoldsView) : Type 0 where
@@ -40,8 +42,8 @@ abbrev pub is_of : ℕ → ℕ → Option (ℕ × ℕ) → Bool
 is_of piece epoch (Some x) = (x.0 == piece) && nat_lt x.1 epoch
 is_of piece epoch None = false
 
--- both lists are in order, and a piece has a byte
-pub record AreOrdered (addresses : List ℕ) (pairs : List (ℕ × ℕ)) (size : ℕ) : Type 0 where
+-- both lists are in order, and there are such pieces
+pub record AreOrdered (addresses : List ℕ) (pairs : List (ℕ × ℕ)) (grain : Grain) : Type 0 where
   pub places : IsNonDecreasing addresses
   pub stores : IsSorted pair_order pairs
-  pub some : 1 ≤ size
+  pub pieces : HasPieces grain

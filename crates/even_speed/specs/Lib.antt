@@ -9,6 +9,7 @@ pub mod InOrder
 pub mod Fixed
 -- Words of contracts: what the code keeps of the loads that wait and of the cores, what is kept of the clocks along a run, what a turn makes of the cores, and why a run
 -- ends.
+pub mod Grain
 pub mod Holds
 pub mod Seats
 pub mod Owns

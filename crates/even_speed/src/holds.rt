@@ -1,11 +1,13 @@
 //! Which loads wait.
-ghost use Rattle.std.specs.Prelude.{◌≡◌, ℕ, ◌≤◌, ◌<◌, ◌+◌, ◌/◌, ◌^◌, ◌&&◌, is_none, slice_get, true, false};
+ghost use Rattle.std.specs.Prelude.{◌≡◌, ℕ, ◌<◌, ◌+◌, ◌^◌, ◌&&◌, is_none, slice_get, true, false};
 ghost use Rattle.std.specs.List.Sorted.{IsPartitionPoint, IsSorted};
 ghost use Rattle.memory_bytes.specs.Shadow.{byte_in};
+ghost use Rattle.even_speed.specs.Grain.{HasPieces, piece_by};
 ghost use Rattle.even_speed.specs.Held as held;
 ghost use Rattle.even_speed.specs.Holds as spec;
 ghost use Rattle.even_speed.specs.Holds.{holding_of};
 
+use crate::grain::Grain;
 use memory_bytes::ShadowBytes;
 use std::marker::Model;
 
@@ -17,8 +19,8 @@ pub struct Holds {
     places: Vec<u32>,
     /// The pieces, each with an epoch that stores there, in ascending order.
     stores: Vec<(u32, u32)>,
-    /// How many bytes a piece has.
-    length: u32,
+    /// What the pieces are.
+    grain: Grain,
 }
 
 impl Model for Holds {
@@ -26,24 +28,23 @@ impl Model for Holds {
 
     ghost Value = { HoldsView };
 
-    ghost view = { λ h. record { places = h.places.items; stores = h.stores.items; length = h.length } };
+    ghost view = { λ h. record { places = h.places.items; stores = h.stores.items; grain = h.grain } };
 
-    ghost invariant = { λ h. AreOrdered h.places.items h.stores.items h.length };
+    ghost invariant = { λ h. AreOrdered h.places.items h.stores.items h.grain };
 }
 
 impl Holds {
-    /// The loads at these addresses of code wait, which are pcs, and those of these pieces of memory of so many bytes, each with an epoch that
-    /// stores there: the byte at an address lies in the piece of that number by the length.
-    pub fn new(mut addresses: Vec<u32>, mut stores: Vec<(u32, u32)>, length: u32) -> Holds
-        requires { 1 ≤ length }
-        ensures { holding_of result ≡ held.holding addresses.items stores.items length }
+    /// The loads at these addresses of code wait, which are pcs, and those of these pieces of memory, each with an epoch that stores there.
+    pub fn new(mut addresses: Vec<u32>, mut stores: Vec<(u32, u32)>, grain: Grain) -> Holds
+        requires { HasPieces grain }
+        ensures { holding_of result ≡ held.holding addresses.items stores.items (piece_by grain) }
     {
         addresses.sort_unstable();
         stores.sort_unstable();
         Holds {
             places: addresses,
             stores,
-            length,
+            grain,
         }
     }
 
@@ -90,16 +91,9 @@ impl Holds {
 
     /// So of a load of one byte.
     fn reads_byte(&self, homefree: u32, epoch: u32, own: &ShadowBytes, byte: u32) -> bool
-        ensures { result ≡ (is_none (byte_in own.now.cells byte) && held.is_stored (holding_of self.now) homefree epoch (byte / (holding_of self.now).length)) }
+        ensures { result ≡ (is_none (byte_in own.now.cells byte) && held.is_stored (holding_of self.now) homefree epoch ((holding_of self.now).piece byte)) }
     {
-        own.get(byte).is_none() && self.is_stored(homefree, epoch, self.piece(byte))
-    }
-
-    /// The piece in which a byte lies.
-    fn piece(&self, byte: u32) -> u32
-        ensures { result ≡ byte / (holding_of self.now).length }
-    {
-        byte / self.length
+        own.get(byte).is_none() && self.is_stored(homefree, epoch, self.grain.piece(byte))
     }
 
     /// Whether an epoch from the homefree one up to this one, without it, stores in the piece.

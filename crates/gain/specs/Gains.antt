@@ -21,8 +21,8 @@ use Rattle.turn_costs.specs.Prices.{bus_prices, no_prices}
 use Rattle.even_speed.specs.declared.terms.Terms.{Terms}
 use Rattle.even_speed.specs.Held.{Holding, loads_at}
 use Rattle.even_speed.specs.Holds.{holding_of}
+use Rattle.dependences.specs.declared.pieces.Pieces.{Pieces}
 use Rattle.all_schedules.specs.Paced.{none_waits}
-use Rattle.all_schedules.specs.declared.holds.Pieces.{Pieces}
 use Rattle.all_schedules.specs.Holding.{WaitsInOrder, pieces_of}
 use Rattle.all_schedules.specs.Stores.{HasRefused, RunsOnAll, on_store}
 use Rattle.gain.specs.declared.gains.Study.{Study}

@@ -1,11 +1,12 @@
 use Rattle.std.proofs.Common.{◌≡◌, ◌-◌, ◌+◌, ◌≤◌, ℕ, length, slice_index}
 use Rattle.dependences.specs.KeptPieces.{AreNoted}
+use Rattle.dependences.specs.Stored.{piece_in}
 use Rattle.dependences.proofs.Noting.{Storing}
 use Rattle.dependences.proofs.stores.follow.Given as goal
 
 abbrev pub invariant-accesses : goal.invariant-accesses
 invariant-accesses l = record {
-  storing : Storing l.image l.size l.epoch l.memory l.hart l.noted.list.items;
+  storing : Storing l.image (piece_in l.pieces l.image) l.epoch l.memory l.hart l.noted.list.items;
   within : l.hart.done ≤ l.image.limit;
   long : length l.noted.last.items ≡ length l.fn.noted.last.items;
   fresh : (a : ℕ) → slice_index l.noted.last.items a ≤ l.epoch + 1;

@@ -4,6 +4,7 @@ use Rattle.rv32_exec.specs.Sequential.{SequentialResult}
 use Rattle.rv32_exec.proofs.Epochs.{first_epochs-none}
 use Rattle.dependences.specs.Conflict.{IsInOrder}
 use Rattle.dependences.specs.KeptPieces.{AreBefore}
+use Rattle.dependences.specs.Stored.{piece_in}
 use Rattle.dependences.proofs.Ending.{all_by_end, all_by_last}
 use Rattle.dependences.proofs.Noting.{all_are_stores, none_stored}
 use Rattle.dependences.proofs.stores.run_all.Goals as goal
@@ -13,7 +14,7 @@ loop-epoch-init c = record {
   done = first_epochs-none c.args.image.now ∙ ap (λ (m : List ℕ). let r : SequentialResult = record { end = Done 0; bytes = m } in r) (sym c.requires.memory);
   size = ap length c.requires.memory ∙ c.epochs-epoch-end.ensures.limits.byte_count;
   long = c.requires.long;
-  kept = none_stored c.args.image.now c.args.size c.args.noted.now.list.items c.requires.list;
+  kept = none_stored c.args.image.now (piece_in c.args.pieces c.args.image.now) c.args.noted.now.list.items c.requires.list;
   fresh = λ a. omega (arith, c.requires.none a);
 }
 
@@ -22,7 +23,7 @@ returns-then-not-branch c =
     let image = c.args.image.now in
     let epoch = c.loop-epoch.epoch in
     let order : IsInOrder image epoch = ap (λ (r : SequentialResult). r.end) c.loop-epoch.invariant.done in
-    all_are_stores image c.args.size (epoch + 1) c.follow.new.noted.list.items
+    all_are_stores image (piece_in c.args.pieces image) (epoch + 1) c.follow.new.noted.list.items
     (all_by_last image epoch (omega (arith, c.loop-epoch-test.true, c.epochs-epoch-end.ensures.epochs)) order (c.in_ok-follow.ensures.ends c.if-not-branch.true))
     c.in_ok-follow.ensures.kept
 
@@ -31,5 +32,5 @@ returns c =
     let image = c.args.image.now in
     let last : c.loop-epoch.epoch ≡ image.epochs = omega (arith, c.epochs-epoch-end.ensures.epochs) in
     let order : IsInOrder image image.epochs = subst (λ n. IsInOrder image n) last (ap (λ (r : SequentialResult). r.end) c.loop-epoch.invariant.done) in
-    all_are_stores image c.args.size image.epochs c.loop-epoch.noted.list.items (all_by_end image order)
-    (subst (λ n. AreBefore image c.args.size n c.loop-epoch.noted.list.items) last c.loop-epoch.invariant.kept)
+    all_are_stores image (piece_in c.args.pieces image) image.epochs c.loop-epoch.noted.list.items (all_by_end image order)
+    (subst (λ n. AreBefore image (piece_in c.args.pieces image) n c.loop-epoch.noted.list.items) last c.loop-epoch.invariant.kept)

@@ -6,7 +6,7 @@ pub invariant_of-result : goal.invariant_of-result
 invariant_of-result c = record {
   places = IsNonDecreasingBy-from_sort (λ x. x) _ c.sort_unstable.ensures.sorted;
   stores = c.sort_unstable-2.ensures.sorted;
-  some = c.requires;
+  pieces = c.requires;
 }
 
 pub returns : goal.returns
