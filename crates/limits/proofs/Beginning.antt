@@ -12,7 +12,7 @@ use Rattle.dependences.specs.Conflict.{memory_before}
 use Rattle.dependences.proofs.Paths.{at_start}
 use Rattle.limits.specs.declared.limit.Waits.{Waits}
 use Rattle.limits.proofs.Marks.{IsOn, IsOwned, IsTimed, IsTimedIn, IsUnder, Marks}
-use Rattle.limits.proofs.Marking.{Alters, done_still, goes, under_still}
+use Rattle.limits.proofs.Marking.{Alters, done_still, goes, not_none, some_same, under_still}
 use Rattle.limits.proofs.Owners.{committed_before}
 
 -- ---- one number changed
@@ -54,14 +54,8 @@ begun_under image waits m by epoch now begin from = record {
   };
 }
 
-some_same : (c d : CoreState) → Some c ≡ Some d → c ≡ d
-some_same c d is = cc
-
 none_some : (c : CoreState) → None ≡ Some c → ⊥
 none_some c is = cc
-
-some_none : (c : CoreState) → Some c ≡ None → ⊥
-some_none c is = cc
 
 none_epoch : (d : ℕ) → None ≡ Some d → ⊥
 none_epoch d is = cc
@@ -184,7 +178,7 @@ module _ (image : LoadedImage) (waits : Waits) (cores now : ℕ) (s : FlatState)
       | inr other ↦ on_other k d other.0 other.1
     ];
     idle = λ k none d is. elim (cases_eq k by) [
-      | inl e ↦ absurd (some_none (begun image next) (sym (ap (with_core s.cores by (Some (begun image next))) e ∙ with_core_same s.cores by (Some (begun image next))) ∙ none))
+      | inl e ↦ absurd (not_none (begun image next) (sym (ap (with_core s.cores by (Some (begun image next))) e ∙ with_core_same s.cores by (Some (begun image next))) ∙ none))
       | inr other ↦
           (let was = x.idle k (sym (with_core_other s.cores by (Some (begun image next)) k other) ∙ none) d (sym (one_other m.last by (Some next) k other) ∙ is) in
           let low = was.1 in

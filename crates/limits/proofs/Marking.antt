@@ -167,13 +167,13 @@ module _ (image : LoadedImage) (waits : Waits) (m m' : Marks) (by epoch now : �
       let was = x.1 in inl (x.0, omega (arith, was, is))
   owned_still cores homefree d low last (inr x) = inr (x.0, x.1, ap (λ (f : ℕ → Option ℕ). f x.0) last ∙ x.2)
 
--- a core runs on
-not_none : (c : CoreState) → Some c ≡ None → ⊥
+pub not_none : (c : CoreState) → Some c ≡ None → ⊥
 not_none c is = cc
 
-some_same : (c d : CoreState) → Some c ≡ Some d → c ≡ d
+pub some_same : (c d : CoreState) → Some c ≡ Some d → c ≡ d
 some_same c d is = cc
 
+-- a core runs on
 module _ (image : LoadedImage) (waits : Waits) (cores now : ℕ) (s : FlatState) (m m' : Marks) (by : ℕ) (c : CoreState) (kept : IsKept image cores s) (x : IsTimedIn image waits cores now s m)
     (at : s.cores by ≡ Some c) (alters : Alters m m' by c.epoch now) (last : m'.last ≡ m.last)
     (unread : (k : ℕ) (d : CoreState) → k ≢ by → s.cores k ≡ Some d → d.hurt ≡ false → d.straight ≡ false → (a : ℕ) → is_some (d.outside a) ≡ true → m'.shown a ≤ m.shown a) where

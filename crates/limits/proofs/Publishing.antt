@@ -1,11 +1,13 @@
 -- A core publishes, and then accesses memory in the same turn.
-use Rattle.std.proofs.Common.{◌≡◌, ◌≢◌, ℕ, ◌+◌, ◌<◌, ◌≤◌, ◌==◌, ◌&&◌, not, Bool, true, false, cond, List, ◌++◌, length, Option, Some, None, if◌then◌else◌, refl, sym, ap, subst, ◌∙◌, inl, inr, true≢false, arith, eq-eqb, ne_eqb}
+use Rattle.std.proofs.Common.{◌≡◌, ◌≢◌, ℕ, ◌+◌, ◌-◌, ◌<◌, ◌≤◌, ◌==◌, ◌&&◌, not, Bool, true, false, cond, List, ◌++◌, length, Option, Some, None, if◌then◌else◌, refl, sym, ap, subst, ◌∙◌, inl, inr, true≢false, arith, eq-eqb, ne_eqb}
 use Rattle.std.proofs.Math.Path.{fun_ext}
 use Rattle.std.proofs.lemmas.Bool.{cases_eq}
 use Rattle.std.proofs.lemmas.List.Elements.{All-weaker}
 use Rattle.memory_bytes.specs.Bytes.{number_at}
 use Rattle.memory_bytes.specs.Maps.{nothing, over, stored}
 use Rattle.rv32_image.specs.Image.{IsImage, LoadedImage}
+use Rattle.rv32_exec.specs.declared.stop.Stop.TheVariants as stop
+use Rattle.rv32_exec.specs.NextEvent.{next_event}
 use Rattle.spec_history.specs.declared.entry.Entry.{Entry}
 use Rattle.spec_history.specs.declared.entry.What.{What}
 use Rattle.spec_history.specs.declared.entry.What.TheVariants as what
@@ -19,11 +21,11 @@ use Rattle.spec_history.proofs.OneEntry.Legal.{legal_is}
 use Rattle.spec_history.proofs.Replay.Joining.{history_goes_on, one_entry, spares_all, then_entries}
 use Rattle.spec_history.proofs.Replay.Replays.{effect-on, replayed}
 use Rattle.spec_history.proofs.Searches.Missing.{misses_by}
-use Rattle.violations.specs.View.{StoreView, attempt_of, epoch_of, is_accessed, line_of}
+use Rattle.violations.specs.View.{IsSettled, StoreView, attempt_of, epoch_of, is_accessed, line_of}
 use Rattle.violations.specs.Rule.{Guards, HurtsLater, IsCrowded, IsSameCore, LoadsStraight, OwnsIn, Publishes, StoresStraight}
 use Rattle.homefree.specs.Agrees.{Agrees, AgreesCore}
 use Rattle.homefree.specs.Hurts.{entry, entry_for_each, epoch_on, hurt_if, hurts, with_hurts}
-use Rattle.homefree.specs.Turned.{publishes_unless}
+use Rattle.homefree.specs.Turned.{loaded_hart, publishes_unless, stored_hart}
 use Rattle.homefree.proofs.State.Ends as ending
 use Rattle.homefree.proofs.State.Legality.{by_it}
 use Rattle.homefree.proofs.State.Others.{agrees_with, runs_on, same_at}
@@ -33,11 +35,11 @@ use Rattle.limits.proofs.Marks.{IsTimedIn, IsUnder, Marks}
 use Rattle.limits.proofs.Marking.{Alters, goes, hurt_some}
 use Rattle.limits.proofs.Pathing.{path_published, shown_by, shown_more, shown_past}
 use Rattle.limits.proofs.Leaving.{homefree_read}
-use Rattle.limits.proofs.Acting.{Went, gap, gap_hurt, gap_on, unread}
+use Rattle.limits.proofs.Acting.{Went, gap, gap_hurt, gap_on, loads_straight, stores_straight, unread}
 
 -- ---- the view with nothing kept for one core, which sees what is committed
 
-pub cleared : StoreView → ℕ → StoreView
+cleared : StoreView → ℕ → StoreView
 cleared v core = record v {
   sees = λ k a. if k == core then v.committed a else v.sees k a;
   own = λ k a. if k == core then false else v.own k a;
@@ -54,7 +56,7 @@ module _ (v : StoreView) (core : ℕ) where
   abbrev c : StoreView
   c = cleared v core
 
-  pub same_others : (k : ℕ) → k ≢ core → IsSameCore v c k
+  same_others : (k : ℕ) → k ≢ core → IsSameCore v c k
   unfolding cleared
   same_others k other = record {
     attempt = refl;
@@ -63,27 +65,27 @@ module _ (v : StoreView) (core : ℕ) where
     sees = λ a. by_other k core (v.committed a) (v.sees k a) other;
   }
 
-  pub same_kind : (c.shape ≡ v.shape) × (c.cached ≡ v.cached)
+  same_kind : (c.shape ≡ v.shape) × (c.cached ≡ v.cached)
   unfolding cleared
   same_kind = (refl, refl)
 
-  pub same_committed : (a : ℕ) → c.committed a ≡ v.committed a
+  same_committed : (a : ℕ) → c.committed a ≡ v.committed a
   unfolding cleared
   same_committed a = refl
 
-  pub same_attempt : (k : ℕ) → c.attempt k ≡ v.attempt k
+  same_attempt : (k : ℕ) → c.attempt k ≡ v.attempt k
   unfolding cleared
   same_attempt k = refl
 
-  pub none_own : (a : ℕ) → c.own core a ≡ false
+  none_own : (a : ℕ) → c.own core a ≡ false
   unfolding cleared
   none_own a = by_it_self core false (v.own core a)
 
-  pub none_guarded : (a : ℕ) → c.guarded core a ≡ false
+  none_guarded : (a : ℕ) → c.guarded core a ≡ false
   unfolding cleared
   none_guarded a = by_it_self core false (v.guarded core a)
 
-  pub sees_committed : (a : ℕ) → c.sees core a ≡ v.committed a
+  sees_committed : (a : ℕ) → c.sees core a ≡ v.committed a
   unfolding cleared
   sees_committed a = by_it_self core (v.committed a) (v.sees core a)
 
@@ -140,7 +142,7 @@ module _ (v : StoreView) (core : ℕ) where
       };
     }
 
-  pub loads_too : (w : StoreView) (address width value : ℕ) (hurt : ℕ → Bool) → LoadsStraight v w core address width value hurt → LoadsStraight c w core address width value hurt
+  loads_too : (w : StoreView) (address width value : ℕ) (hurt : ℕ → Bool) → LoadsStraight v w core address width value hurt → LoadsStraight c w core address width value hurt
   loads_too w address width value hurt l = record {
     shape = l.shape ∙ sym same_kind.0;
     cached = l.cached ∙ sym same_kind.1;
@@ -152,7 +154,7 @@ module _ (v : StoreView) (core : ℕ) where
     crowded = λ k is. crowded_too k address (not_it w hurt l.others k is) (l.crowded k is);
   }
 
-  pub stores_too : (w : StoreView) (address width value : ℕ) (hurt : ℕ → Bool) → StoresStraight v w core address width value hurt → StoresStraight c w core address width value hurt
+  stores_too : (w : StoreView) (address width value : ℕ) (hurt : ℕ → Bool) → StoresStraight v w core address width value hurt → StoresStraight c w core address width value hurt
   stores_too w address width value hurt l = record {
     shape = l.shape ∙ sym same_kind.0;
     cached = l.cached ∙ sym same_kind.1;
@@ -196,16 +198,16 @@ module _ (image : LoadedImage) (cores core : ℕ) (kind : Waits) (now : ℕ) (s 
   abbrev has : ending.HasPublished image cores s core c between hurt
   has = ending.has_published image cores s v core c still going.kept agrees at unhurt between hurt (subst (λ b. publishes_unless b v between core hurt) (sym speculates) p)
 
-  abbrev pub new : CoreState
+  abbrev new : CoreState
   new = after_publish c
 
-  abbrev pub state : FlatState
+  abbrev state : FlatState
   state = effect_on image u core c what.Publish
 
-  abbrev pub marks : Marks
+  abbrev marks : Marks
   marks = record m { shown = shown_by c.own m.shown now }
 
-  abbrev pub view_after : StoreView
+  abbrev view_after : StoreView
   view_after = cleared between core
 
   legal : refusal_of image cores u (record { by = core; what = what.Publish }) ≡ None
@@ -219,9 +221,15 @@ module _ (image : LoadedImage) (cores core : ℕ) (kind : Waits) (now : ℕ) (s 
     cancelled = refl;
   })
 
-  pub replays : replay_from image cores s (hurts cores s core hurt ++ entry core what.Publish) ≡ Some state
+  replays : replay_from image cores s (hurts cores s core hurt ++ entry core what.Publish) ≡ Some state
   replays = then_entries image cores (hurts cores s core hurt) (entry core what.Publish) s u state has.replays
       (one_entry image cores u (record { by = core; what = what.Publish }) legal ∙ ap Some (effect-on image u core what.Publish c has.at))
+
+  abbrev history_after : List Entry
+  history_after = history ++ (hurts cores s core hurt ++ entry core what.Publish)
+
+  reached_after : replay image cores history_after ≡ Some state
+  reached_after = history_goes_on image cores history (hurts cores s core hurt ++ entry core what.Publish) s state reached replays
 
   mine : AgreesCore s.committed v core c
   mine = (agrees.core still core).runs c at unhurt
@@ -235,7 +243,7 @@ module _ (image : LoadedImage) (cores core : ℕ) (kind : Waits) (now : ℕ) (s 
     guards_only = λ a guards. absurd (true≢false (sym guards ∙ none_guarded between core a));
   }
 
-  pub agrees_after : Agrees state view_after
+  agrees_after : Agrees state view_after
   agrees_after = record {
     committed = λ a. same_committed between core a ∙ has.committed a;
     core = λ none k. agrees_with bytes view_after core (Some new) u.cores (runs_on bytes view_after core new unhurt new_agrees)
@@ -251,7 +259,7 @@ module _ (image : LoadedImage) (cores core : ℕ) (kind : Waits) (now : ℕ) (s 
   under : IsUnder image kind m core c
   under = (timed.core core c at).under unhurt
 
-  pub from : m.from core ≤ now
+  from : m.from core ≤ now
   from = omega (arith, due)
 
   new_under : IsUnder image kind marks core new
@@ -276,15 +284,15 @@ module _ (image : LoadedImage) (cores core : ℕ) (kind : Waits) (now : ℕ) (s 
     past = shown_past c.own m.shown now timed.past;
   }
 
-  pub timed_after : IsTimedIn image kind cores now state marks
+  timed_after : IsTimedIn image kind cores now state marks
   timed_after = goes image kind cores now u m marks core c going_u.kept timed_u has.at alters refl
       (unread image cores core kind now s m v v history is reached still agrees timed due c at unhurt hurt between (subst (λ b. publishes_unless b v between core hurt) (sym speculates) p))
       new refl (λ straight. store) (λ free. new_under)
 
-  pub runs_after : state.cores core ≡ Some new
+  runs_after : state.cores core ≡ Some new
   runs_after = with_core_same u.cores core (Some new)
 
-  pub due_after : marks.from core + gap image (state.cores core) ≤ now
+  due_after : marks.from core + gap image (state.cores core) ≤ now
   due_after =
       let now_gap = gap_on image (state.cores core) new runs_after unhurt in
       let was_gap = gap_on image (s.cores core) c at unhurt in omega (arith, due, now_gap, was_gap)
@@ -301,7 +309,7 @@ module _ (image : LoadedImage) (cores core : ℕ) (kind : Waits) (now : ℕ) (s 
       let less = gap_hurt image (hurt k) (s.cores k) in omega (arith, it, less)
 
   -- and then comes an access
-  pub then_goes : (more : ℕ) (later : ℕ → Bool) (x : What) (w : StoreView) → Went image kind cores now core more state marks (hurts cores state core later ++ entry core x) w
+  then_goes : (more : ℕ) (later : ℕ → Bool) (x : What) (w : StoreView) → Went image kind cores now core more state marks (hurts cores state core later ++ entry core x) w
       → Went image kind cores now core more s m ((hurts cores s core hurt ++ entry core what.Publish) ++ (hurts cores s core later ++ entry core x)) w
   then_goes more later x w y = record {
     state = y.state;
@@ -314,3 +322,21 @@ module _ (image : LoadedImage) (cores core : ℕ) (kind : Waits) (now : ℕ) (s 
     own = y.own;
     others = λ k other. let last = y.others k other in let first = others_after k other in omega (arith, last, first);
   }
+
+  pub then_loads : (w : StoreView) → IsSettled w → (address width rd value : ℕ) (signed : Bool) (later : ℕ → Bool) → (next_event image c.hart).at ≡ stop.Load address width signed rd
+      → LoadsStraight between w core address width value later
+      → Went image kind cores now core ((next_event image (loaded_hart image c value)).now.done - (loaded_hart image c value).done) s m
+      ((hurts cores s core hurt ++ entry core what.Publish) ++ (hurts cores s core later ++ entry core (what.Load address width value))) w
+  then_loads w kept address width rd value signed later next l =
+      then_goes ((next_event image (loaded_hart image c value)).now.done - (loaded_hart image c value).done) later (what.Load address width value) w
+      (loads_straight image cores core kind now state marks view_after w history_after is reached_after still agrees_after timed_after due_after new runs_after unhurt homefree refl kept
+      address width rd value signed later next (loads_too between core w address width value later l))
+
+  pub then_stores : (w : StoreView) → IsSettled w → (address width value : ℕ) (later : ℕ → Bool) → (next_event image c.hart).at ≡ stop.Store address width value
+      → StoresStraight between w core address width value later
+      → Went image kind cores now core ((next_event image (stored_hart image c)).now.done - (stored_hart image c).done) s m
+      ((hurts cores s core hurt ++ entry core what.Publish) ++ (hurts cores s core later ++ entry core (what.Store address width value))) w
+  then_stores w kept address width value later next l =
+      then_goes ((next_event image (stored_hart image c)).now.done - (stored_hart image c).done) later (what.Store address width value) w
+      (stores_straight image cores core kind now state marks view_after w history_after is reached_after still agrees_after timed_after due_after new runs_after unhurt homefree refl kept
+      address width value later next (stores_too between core w address width value later l))

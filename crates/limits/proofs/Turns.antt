@@ -9,10 +9,8 @@ use Rattle.rv32_exec.specs.Hart.{HartState}
 use Rattle.rv32_exec.specs.NextEvent.{next_event}
 use Rattle.spec_history.specs.declared.entry.Entry.{Entry}
 use Rattle.spec_history.specs.declared.entry.What.TheVariants as what
-use Rattle.spec_history.specs.Effect.{after_publish}
 use Rattle.spec_history.specs.FlatState.{CoreState, FlatState, end_at}
 use Rattle.spec_history.specs.Replay.{replay}
-use Rattle.spec_history.proofs.Replay.Joining.{history_goes_on}
 use Rattle.violations.specs.View.{IsSettled, StoreView}
 use Rattle.violations.specs.View as view
 use Rattle.violations.specs.Rule.{LoadsStraight, StoresStraight}
@@ -28,7 +26,6 @@ use Rattle.limits.proofs.Marking.{goes}
 use Rattle.limits.proofs.Finishing.{IsBound}
 use Rattle.limits.proofs.Acting.{Went, gap}
 use Rattle.limits.proofs.Acting as act
-use Rattle.limits.proofs.Publishing.{cleared, loads_too, stores_too}
 use Rattle.limits.proofs.Publishing as publish
 
 -- ---- what comes of a turn
@@ -95,19 +92,19 @@ module _ (t : Turn) (kind : Waits) (now : ℕ) (m : Marks) (v w : StoreView) (hi
   last_by true e x some = refl
   last_by false e x some = absurd cc
 
-  left_by : (c : CoreState) (entries : List Entry) (o : Option End) → end_at t.image (s.homefree + 1) ≡ o
+  left_by : (entries : List Entry) (o : Option End) → end_at t.image (s.homefree + 1) ≡ o
       → (end_at t.image (s.homefree + 1) ≡ None → Went t.image kind t.cores now t.core 0 s m entries w)
       → (s.homefree + 1 ≡ t.image.epochs → IsBound t.image kind t.cores (now + 1))
       → To (does entries (left_or_over o))
-  left_by c entries None none goes over = goes none
-  left_by c entries (Some e) some goes over = over (eqb-true (s.homefree + 1) t.image.epochs (last_by (s.homefree + 1 == t.image.epochs) e (end.Done (s.homefree + 1)) some))
+  left_by entries None none goes over = goes none
+  left_by entries (Some e) some goes over = over (eqb-true (s.homefree + 1) t.image.epochs (last_by (s.homefree + 1 == t.image.epochs) e (end.Done (s.homefree + 1)) some))
 
   committed : (out : Outcome) → turn.IsCommit t v w out → To out
   committed out l =
       let c = l.core in
       let at = l.comes.is_at.runs in
       let unhurt = l.comes.is_at.unhurt in
-      so out _ l.out_is (left_by c (turn.hurts_of t l.hurt ++ turn.entry_of t what.Commit) (end_at t.image (s.homefree + 1)) refl
+      so out _ l.out_is (left_by (turn.hurts_of t l.hurt ++ turn.entry_of t what.Commit) (end_at t.image (s.homefree + 1)) refl
       (λ none. act.commits t.image t.cores t.core kind now s m v w history is reached still agrees timed due c at unhurt l.comes.homefree l.between l.hurt l.comes.publishes
       l.comes.is_at.event l.stays none l.store)
       (λ last. act.is_over t.image t.cores t.core kind now s m v w history is reached still agrees timed due c at unhurt l.comes.homefree l.comes.is_at.event last))
@@ -135,20 +132,8 @@ module _ (t : Turn) (kind : Waits) (now : ℕ) (m : Marks) (v w : StoreView) (hi
         address width rd value signed hurt next (subst (λ x. LoadsStraight x w t.core address width value hurt) p.0 l)
     load_by c at unhurt homefree address width rd value signed next between first hurt false speculates p waits l =
         let store : kind ≡ Store = for.load t.core address width (waits speculates) in
-        publish.then_goes t.image t.cores t.core kind now s m v history is reached still agrees timed due c at unhurt speculates homefree store between first p
-        _ hurt (what.Load address width value) w
-        (act.loads_straight t.image t.cores t.core kind now (publish.state t.image t.cores t.core kind now s m v history is reached still agrees timed due c at unhurt speculates homefree store between first p)
-        (publish.marks t.image t.cores t.core kind now s m v history is reached still agrees timed due c at unhurt speculates homefree store between first p)
-        (cleared between t.core) w (history ++ (turn.hurts_of t first ++ turn.entry_of t what.Publish)) is
-        (history_goes_on t.image t.cores history _ s _ reached (publish.replays t.image t.cores t.core kind now s m v history is reached still agrees timed due c at unhurt speculates homefree store between first p))
-        still
-        (publish.agrees_after t.image t.cores t.core kind now s m v history is reached still agrees timed due c at unhurt speculates homefree store between first p)
-        (publish.timed_after t.image t.cores t.core kind now s m v history is reached still agrees timed due c at unhurt speculates homefree store between first p)
-        (publish.due_after t.image t.cores t.core kind now s m v history is reached still agrees timed due c at unhurt speculates homefree store between first p)
-        (after_publish c)
-        (publish.runs_after t.image t.cores t.core kind now s m v history is reached still agrees timed due c at unhurt speculates homefree store between first p)
-        unhurt homefree refl kept_w address width rd value signed hurt next
-        (loads_too between t.core w address width value hurt l))
+        publish.then_loads t.image t.cores t.core kind now s m v history is reached still agrees timed due c at unhurt speculates homefree store between first p
+        w kept_w address width rd value signed hurt next l
 
     store_by : (c : CoreState) (at : s.cores t.core ≡ Some c) (unhurt : c.hurt ≡ false) (homefree : c.epoch ≡ s.homefree) (address width value : ℕ)
         (next : (next_event t.image c.hart).at ≡ stop.Store address width value) (between : StoreView) (first hurt : ℕ → Bool) (b : Bool) → c.straight ≡ b
@@ -160,20 +145,8 @@ module _ (t : Turn) (kind : Waits) (now : ℕ) (m : Marks) (v w : StoreView) (hi
         address width value hurt next (subst (λ x. StoresStraight x w t.core address width value hurt) p.0 l)
     store_by c at unhurt homefree address width value next between first hurt false speculates p waits l =
         let store : kind ≡ Store = for.store t.core address width (waits speculates) in
-        publish.then_goes t.image t.cores t.core kind now s m v history is reached still agrees timed due c at unhurt speculates homefree store between first p
-        _ hurt (what.Store address width value) w
-        (act.stores_straight t.image t.cores t.core kind now (publish.state t.image t.cores t.core kind now s m v history is reached still agrees timed due c at unhurt speculates homefree store between first p)
-        (publish.marks t.image t.cores t.core kind now s m v history is reached still agrees timed due c at unhurt speculates homefree store between first p)
-        (cleared between t.core) w (history ++ (turn.hurts_of t first ++ turn.entry_of t what.Publish)) is
-        (history_goes_on t.image t.cores history _ s _ reached (publish.replays t.image t.cores t.core kind now s m v history is reached still agrees timed due c at unhurt speculates homefree store between first p))
-        still
-        (publish.agrees_after t.image t.cores t.core kind now s m v history is reached still agrees timed due c at unhurt speculates homefree store between first p)
-        (publish.timed_after t.image t.cores t.core kind now s m v history is reached still agrees timed due c at unhurt speculates homefree store between first p)
-        (publish.due_after t.image t.cores t.core kind now s m v history is reached still agrees timed due c at unhurt speculates homefree store between first p)
-        (after_publish c)
-        (publish.runs_after t.image t.cores t.core kind now s m v history is reached still agrees timed due c at unhurt speculates homefree store between first p)
-        unhurt homefree refl kept_w address width value hurt next
-        (stores_too between t.core w address width value hurt l))
+        publish.then_stores t.image t.cores t.core kind now s m v history is reached still agrees timed due c at unhurt speculates homefree store between first p
+        w kept_w address width value hurt next l
 
   -- ---- any of them
 
