@@ -85,7 +85,7 @@ due_least need now x (Due at) is due = let same : at ≡ x = cc in omega (arith,
 due_least need now x (Waits since cause) is due = absurd cc
 due_least need now x Gone is due = absurd cc
 
-unheld : (held : Bool) (n : Next) (x : ℕ) → (if held then None else due_of n) ≡ Some x → due_of n ≡ Some x
+pub unheld : (held : Bool) (n : Next) (x : ℕ) → (if held then None else due_of n) ≡ Some x → due_of n ≡ Some x
 unheld true n x is = absurd cc
 unheld false n x is = is
 
@@ -102,11 +102,11 @@ due_woken_from need need' now at c Gone is less more due = subst (IsDueFrom need
 due_woken : (need need' now at : ℕ) (c : Clock) → need' ≤ need → now ≤ at → IsDueFrom need now c.next → IsDueFrom need' at (woken at c).next
 due_woken need need' now at c less more due = due_woken_from need need' now at c c.next refl less more due
 
-by_test : {A : Type 0} (P : A → Type 0) (b : Bool) (x y : A) → b ≡ true → P x → P (if b then x else y)
+pub by_test : {A : Type 0} (P : A → Type 0) (b : Bool) (x y : A) → b ≡ true → P x → P (if b then x else y)
 by_test P true x y is holds = holds
 by_test P false x y is holds = absurd cc
 
-by_other : {A : Type 0} (P : A → Type 0) (b : Bool) (x y : A) → b ≡ false → P y → P (if b then x else y)
+pub by_other : {A : Type 0} (P : A → Type 0) (b : Bool) (x y : A) → b ≡ false → P y → P (if b then x else y)
 by_other P true x y is holds = absurd cc
 by_other P false x y is holds = holds
 
@@ -119,7 +119,7 @@ clear_same v w k same clear = let core = same.cores k in record {
   sees = λ a. core.sees a ∙ (clear.sees a ∙ sym (same.committed a));
 }
 
-settled_same : (v w : StoreView) → IsSameView v w → IsSettled v → IsSettled w
+pub settled_same : (v w : StoreView) → IsSameView v w → IsSettled v → IsSettled w
 settled_same v w same settled = record {
   there = λ k x is. subst (λ z. k < z.cores) (sym same.shape) (settled.there k x (sym (same.cores k).attempt ∙ is));
   apart = λ j k x y first second epoch. settled.apart j k x y (sym (same.cores j).attempt ∙ first) (sym (same.cores k).attempt ∙ second) epoch;
@@ -131,7 +131,7 @@ settled_same v w same settled = record {
       ∙ settled.whole_lines (sym same.cached ∙ cached) k a b (subst (λ z. line_of z a ≡ line_of z b) same.shape line) (sym ((same.cores k).guarded a) ∙ guards);
 }
 
-agrees_same : (s : FlatState) (v w : StoreView) → IsSameView v w → Agrees s v → Agrees s w
+pub agrees_same : (s : FlatState) (v w : StoreView) → IsSameView v w → Agrees s v → Agrees s w
 agrees_same s v w same agrees = record {
   committed = λ a. same.committed a ∙ agrees.committed a;
   core = λ still k. same_at s.committed s.committed v w k (s.cores k) (same.shape, same.cached) (λ a. refl) (same.cores k) (agrees.core still k);
@@ -152,13 +152,13 @@ pub record IsTimedRun (image : LoadedImage) (what : Kind) (cores : ℕ) (history
 more_steps : (image : LoadedImage) (what : Kind) (cores fewer more : ℕ) → fewer ≤ more → IsBound image what cores fewer → IsBound image what cores more
 more_steps image what cores fewer more less b = record { epochs = b.epochs; all = b.all; timing = b.timing; is = b.is; most = (let most = b.most in omega (arith, most, less)) }
 
-same_ran : (x y : Ran) → (let r : Result (Option Ran) TurnFault = Ok (Some x) in r ≡ Ok (Some y)) → x ≡ y
+pub same_ran : (x y : Ran) → (let r : Result (Option Ran) TurnFault = Ok (Some x) in r ≡ Ok (Some y)) → x ≡ y
 same_ran x y is = cc
 
-not_none : (x : Ran) → (let r : Result (Option Ran) TurnFault = Ok (Some x) in r ≡ Ok None) → ⊥
+pub not_none : (x : Ran) → (let r : Result (Option Ran) TurnFault = Ok (Some x) in r ≡ Ok None) → ⊥
 not_none x is = cc
 
-not_fault : (x : Ran) (f : TurnFault) → (let r : Result (Option Ran) TurnFault = Ok (Some x) in r ≡ Err f) → ⊥
+pub not_fault : (x : Ran) (f : TurnFault) → (let r : Result (Option Ran) TurnFault = Ok (Some x) in r ≡ Err f) → ⊥
 not_fault x f is = cc
 
 module _ {S : Type 0} (makes : S → Call → S → Type 0) (view : S → StoreView) (waits : S → StoreWaits) (keeps : S → Type 0) (paced : Pacing S) (what : Kind) (ran : Ran)
@@ -366,7 +366,7 @@ module _ {S : Type 0} (makes : S → Call → S → Type 0) (view : S → StoreV
 
 -- ---- from the start
 
-ended_at_first : (image : LoadedImage) (b : Bool) (e y : End) → (0 == image.epochs) ≡ b → (if b then Some y else None) ≡ Some e → image.epochs ≡ 0
+pub ended_at_first : (image : LoadedImage) (b : Bool) (e y : End) → (0 == image.epochs) ≡ b → (if b then Some y else None) ≡ Some e → image.epochs ≡ 0
 ended_at_first image true e y is some = sym (eqb-true 0 image.epochs is)
 ended_at_first image false e y is some = absurd cc
 

@@ -33,7 +33,7 @@ pub record IsBound (image : LoadedImage) (waits : Waits) (cores steps : ℕ) : T
   pub is : IsTiming image waits cores epochs timing
   pub most : steps_of epochs timing ≤ steps
 
-one_count : (image : LoadedImage) (n k : ℕ) → AreAll image n → AreAll image k → n ≤ k
+pub one_count : (image : LoadedImage) (n k : ℕ) → AreAll image n → AreAll image k → n ≤ k
 one_count image n k first second = elim (cases_lt k n) [
   | inl less ↦ (let most = first.most in let low = second.no_more k (omega (arith, less, most)) (first.each k less) in absurd (omega (arith, low)))
   | inr most ↦ most

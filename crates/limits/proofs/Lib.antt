@@ -20,3 +20,15 @@ pub mod Acting
 pub mod Publishing
 pub mod Turns
 pub mod Bounding
+-- A run in which each load waits for what earlier epochs store in order: no core is hurt, and each step is as early as it can be.
+pub mod Unstored
+pub mod Quiet
+pub mod QuietTurns
+pub mod Lossless
+pub mod QuietRuns
+pub mod HeldRuns
+pub mod Awaiting
+pub mod Plans
+pub mod Dues
+pub mod Planning
+pub mod Limited

@@ -16,7 +16,7 @@ stays image n (Ends h m) g after stopped is = cc
 stays image n (Faults cause pc m) g after stopped is = cc
 
 -- what still runs has not come past a stop
-before_stop : (image : LoadedImage) (n m : ℕ) (from h g : HartState) (memory memory' after : List ℕ) → after_steps image n from memory ≡ Runs h memory'
+pub before_stop : (image : LoadedImage) (n m : ℕ) (from h g : HartState) (memory memory' after : List ℕ) → after_steps image n from memory ≡ Runs h memory'
     → HasStopped (execute image h memory') → after_steps image m from memory ≡ Runs g after → m ≤ n
 before_stop image n m from h g memory memory' after runs stops later = elim (cases_lt n m) [
   | inl less ↦

@@ -3,6 +3,7 @@
 ghost use Rattle.std.specs.Prelude.{ℕ, ◌≤◌};
 ghost use Rattle.rv32_image.specs.Image.{LoadedImage};
 ghost use Rattle.limits.specs.Bound.{IsBelowRuns, NeverWaits};
+ghost use Rattle.limits.specs.HeldBound.{HasNoCaches, RestartsNever, TakesLimit};
 ghost use Rattle.limits.specs.Limits.{IsLimit};
 
 use crate::limit::Waits;
@@ -21,14 +22,39 @@ pub fn forward_is_within_even<S: PricedStore>()
     ensures { IsBelowRuns Waits.Store S.makes S.view S.waits S.keeps }
 {}
 
-/// Where no access waits, none takes fewer than the limit where loads wait for commits.
+/// Over a store in which no access waits, no such run takes fewer steps than the limit where loads wait for commits.
 pub fn commit_is_within_even<S: PricedStore>()
     ensures { NeverWaits S.waits → IsBelowRuns Waits.Commit S.makes S.view S.waits S.keeps }
 {}
 
-/// So it is over plain stores.
+/// Over the plain store no run at even speed takes fewer steps than the limit where loads wait for commits.
 pub fn commit_is_within_plain()
     ensures { IsBelowRuns Waits.Commit ⟦<PlainStore as EpochStore>⟧.makes ⟦<PlainStore as EpochStore>⟧.view ⟦<PlainStore as EpochStore>⟧.waits ⟦<PlainStore as PricedStore>⟧.keeps }
 {
     commit_is_within_even::<PlainStore>();
+}
+
+/// Over a store without caches in which no access waits: a run in which each load waits for what earlier epochs store in order never
+/// restarts, whatever turns cost.
+pub fn held_run_never_restarts<S: PricedStore>()
+    ensures { NeverWaits S.waits → HasNoCaches S.view → RestartsNever S.makes S.view S.waits S.keeps }
+{}
+
+/// Over such a store that run takes just the steps of the limit where loads wait for commits, where turns cost nothing.
+pub fn held_run_takes_commit<S: PricedStore>()
+    ensures { NeverWaits S.waits → HasNoCaches S.view → TakesLimit S.makes S.view S.waits S.keeps }
+{}
+
+/// Over the plain store a run in which each load waits for what earlier epochs store in order never restarts.
+pub fn held_plain_run_never_restarts()
+    ensures { RestartsNever ⟦<PlainStore as EpochStore>⟧.makes ⟦<PlainStore as EpochStore>⟧.view ⟦<PlainStore as EpochStore>⟧.waits ⟦<PlainStore as PricedStore>⟧.keeps }
+{
+    held_run_never_restarts::<PlainStore>();
+}
+
+/// Over the plain store that run takes just the steps of the limit where loads wait for commits, where turns cost nothing.
+pub fn held_plain_run_takes_commit()
+    ensures { TakesLimit ⟦<PlainStore as EpochStore>⟧.makes ⟦<PlainStore as EpochStore>⟧.view ⟦<PlainStore as EpochStore>⟧.waits ⟦<PlainStore as PricedStore>⟧.keeps }
+{
+    held_run_takes_commit::<PlainStore>();
 }
