@@ -12,3 +12,6 @@ pub mod Coming
 pub mod OnTime
 pub mod Lasting
 pub mod Fixed
+pub mod ZeroPrices
+pub mod ZeroClocks
+pub mod ZeroRuns

@@ -265,7 +265,7 @@ due_by bound at (Due due) is b = omega (arith, same_Some due at is, b)
 due_by bound at (Waits since cause) is b = absurd cc
 due_by bound at Gone is b = absurd cc
 
-late_sound : (t last due : ℕ) (queues : Bool) (c : Clock) → t ≤ last → used c ≤ due → due ≤ t → IsSound t last c → IsSound t last (late queues due t c)
+pub late_sound : (t last due : ℕ) (queues : Bool) (c : Clock) → t ≤ last → used c ≤ due → due ≤ t → IsSound t last c → IsSound t last (late queues due t c)
 late_sound t last due true c passes used_due before s = record { whole = s.whole; so_far = s.so_far; next = omega (arith, before, used_due) }
 late_sound t last due false c passes used_due before s = record {
   whole = omega (arith, s.whole, before);
@@ -353,7 +353,7 @@ pub order_calm : (free : Free) (t : Turn) (answer : Answer) → total t.price.sp
 order_calm free t answer none calm passes =
     needed_bound (t.price.in_order || leaves answer) (t.at + total t.price.spent) free.order t.at (omega (arith, none)) (omega (arith, calm, passes))
 
-later_of : (a b : ℕ) → a ≤ b → later a b ≡ b
+pub later_of : (a b : ℕ) → a ≤ b → later a b ≡ b
 later_of a b less = grind (arith, nat_tests)
 
 pub over_calm : (free : Free) (t : Turn) → free.order ≤ free.began → free.began ≤ t.at → over_at free t.at t.price ≡ t.at + 1 + total t.price.spent

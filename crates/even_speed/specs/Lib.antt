@@ -7,6 +7,7 @@ pub mod Held
 pub mod Even
 pub mod InOrder
 pub mod Fixed
+pub mod ZeroCosts
 -- Words of contracts: what the code keeps of the loads that wait and of the cores, what is kept of the clocks along a run, what a turn makes of the cores, and why a run
 -- ends.
 pub mod Grain

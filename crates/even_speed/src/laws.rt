@@ -1,5 +1,6 @@
-//! The law of runs at even speed: the function does nothing of its own, and its contract is the law.
+//! The laws of runs at even speed: each function does nothing of its own, and its contract is the law.
 ghost use Rattle.even_speed.specs.Fixed.{RunIsFixed};
+ghost use Rattle.even_speed.specs.ZeroCosts.{AreRunsAtZero, AreRunsWithout};
 
 use homefree::turn_is_fixed;
 use turn_costs::PricedStore;
@@ -13,3 +14,10 @@ pub fn run_is_fixed<S: PricedStore>()
     turn_is_fixed::<S>();
     actions_are_fixed::<S>();
 }
+
+/// Costs that are all 0 change nothing: from the start of a run the same schedules run as without costs, and lead to the same book, in
+/// as many steps.
+pub fn zero_costs_change_nothing<S: PricedStore>()
+    ensures without { AreRunsWithout S.makes S.view S.waits S.prices S.keeps }
+    ensures at_zero { AreRunsAtZero S.makes S.view S.waits S.prices S.keeps }
+{}

@@ -19,7 +19,7 @@ pub use clock::{Clock, Next};
 pub use clocks::Turn;
 pub use grain::Grain;
 pub use holds::Holds;
-pub use laws::run_is_fixed;
+pub use laws::{run_is_fixed, zero_costs_change_nothing};
 pub use pricing::{Free, Price};
 pub use run::{Ran, drive_evenly};
 pub use terms::Terms;
