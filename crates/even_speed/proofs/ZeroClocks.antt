@@ -9,7 +9,7 @@ use Rattle.even_speed.specs.declared.account.Spent.{Spent}
 use Rattle.even_speed.specs.declared.clock.Clock.{Clock}
 use Rattle.even_speed.specs.declared.clock.Next.{Next}
 use Rattle.even_speed.specs.declared.clock.Next.TheVariants.{Due, Waits, Gone}
-use Rattle.even_speed.specs.Account.{no_steps, nothing_spent, one_more, sum_of, total, with_idle, with_useful, with_waited}
+use Rattle.even_speed.specs.Account.{no_steps, nothing_spent, one_more, sum_of, total, useful_in, with_idle, with_useful, with_waited}
 use Rattle.even_speed.specs.Clocks.{account_of, answered, begun, closed, dropped, ended, late, left, paid, parted, steps_to, waits_for, woken, woken_from}
 use Rattle.even_speed.specs.Kept.{told}
 use Rattle.even_speed.specs.ZeroCosts.{AreOneAccount, but_for_late}
@@ -265,28 +265,37 @@ woken_alike queues at c d a =
 
 -- ---- the account
 
+useful_more : (a b : Account) → b.spent.queue ≡ 0 → but_for_late a ≡ but_for_late b → useful_in a ≡ useful_in b + a.spent.queue
+useful_more a b none rest =
+    let busy : a.busy ≡ b.busy = ap (λ (y : Account). y.busy) rest in
+    let handling : a.spent.handling ≡ b.spent.handling = ap (λ (y : Account). y.spent.handling) rest in
+    let memory : a.spent.memory ≡ b.spent.memory = ap (λ (y : Account). y.spent.memory) rest in
+    omega (arith, busy, handling, memory, none)
+
 closed_account : (queues : Bool) (end : ℕ) (c d : Clock) → told (woken end d) ≤ end → AreAlike queues c d → AreOneAccount queues (closed end c).account (closed end d).account
 closed_account queues end c d before a =
     let woke = woken_alike queues end c d a in
     let x = dropped_alike queues (woken end c).runs end (woken end c) (woken end d) refl before woke in record {
       none_held = x.none_held;
       none_queues = x.none_queues;
-      late = omega (arith, x.late);
+      useful = useful_more (closed end c).account (closed end d).account x.none_queues (ap (λ (y : Clock). y.account) x.rest);
       lost = x.lost;
       dropped = x.dropped;
+      late = omega (arith, x.late);
       rest = ap (λ (y : Clock). y.account) x.rest;
     }
 
 no_account : (queues : Bool) → AreOneAccount queues no_steps no_steps
-no_account queues = record { none_held = λ is. refl; none_queues = refl; late = refl; lost = omega arith; dropped = omega arith; rest = refl }
+no_account queues = record { none_held = λ is. refl; none_queues = refl; useful = refl; lost = omega arith; dropped = omega arith; late = refl; rest = refl }
 
 sum_account : (queues : Bool) (a b x y : Account) → AreOneAccount queues a b → AreOneAccount queues x y → AreOneAccount queues (sum_of a x) (sum_of b y)
 sum_account queues a b x y one two = record {
   none_held = λ is. omega (arith, one.none_held is, two.none_held is);
   none_queues = omega (arith, one.none_queues, two.none_queues);
-  late = omega (arith, one.late, two.late);
+  useful = omega (arith, one.useful, two.useful);
   lost = omega (arith, one.lost, two.lost);
   dropped = omega (arith, one.dropped, two.dropped);
+  late = omega (arith, one.late, two.late);
   rest = λ i. sum_of (one.rest i) (two.rest i);
 }
 

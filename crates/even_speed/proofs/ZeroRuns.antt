@@ -31,7 +31,7 @@ use Rattle.even_speed.specs.Even.{EndsOrGoes, Evenly, Pace, Pacing, at_first, cl
 use Rattle.even_speed.specs.Held.{Holding, are_held, epoch_run, held_in, is_held, own_run}
 use Rattle.even_speed.specs.Kept.{IsSound, used}
 use Rattle.even_speed.specs.Pricing.{all_free, begins, free_after, later, no_price, over_at}
-use Rattle.even_speed.specs.ZeroCosts.{AreOneAccount, AreOneRun, AreRunsAtZero, AreRunsWithout, ComeToOne}
+use Rattle.even_speed.specs.ZeroCosts.{AreOneAccount, AreOneRun, AreRunsAtZero, AreRunsWithout, ComeToOne, times_below, times_of}
 use Rattle.even_speed.proofs.Sounding.{answered_sound, first_sound, free_due, late_sound, later_least, later_of, sound_later, used_due, woken_at_end, woken_sound, order_calm}
 use Rattle.even_speed.proofs.ZeroPrices.{CostsNone, IsCalm, begins_calm, calm_after, first_again, over_zero, zero_prices}
 use Rattle.even_speed.proofs.ZeroClocks.{AreAlike, account_alike, answered_alike, late_alike, next_alike, runs_alike, woken_alike}
@@ -325,6 +325,10 @@ module _ {S : Type 0} (makes : S → Call → S → Type 0) (view : S → StoreV
   abbrev zero : Pacing S
   zero = pacing prices holds queues (Some (bus_costs 0))
 
+  -- nothing is asked of a store
+  abbrev asks_none : S → Type 0
+  asks_none store = Unit {0}
+
   abbrev none : Pacing S
   none = pacing prices holds queues None
 
@@ -351,10 +355,37 @@ module _ {S : Type 0} (makes : S → Call → S → Type 0) (view : S → StoreV
         (λ k due. sym (begins_are k due)) (λ k. sym (dues_are k)) first
 
   abbrev AtZero : (S → Type 0) → Pace → Driver S → List ℕ → Result (Option Ran) TurnFault → Driver S → Type 0
-  AtZero keeps p old schedule result new = Evenly makes view waits keeps zero p old schedule result new
+  AtZero asks p old schedule result new = Evenly makes view waits asks zero p old schedule result new
 
   abbrev Without : Pace → Driver S → List ℕ → Result (Option Ran) TurnFault → Driver S → Type 0
   Without p old schedule result new = Evenly makes view waits keeps none p old schedule result new
+
+  abbrev times_at_zero : (asks : S → Type 0) (p : Pace) (old : Driver S) (schedule : List ℕ) (result : Result (Option Ran) TurnFault) (new : Driver S) → AtZero asks p old schedule result new → List ℕ
+  times_at_zero asks = times_of makes view waits asks zero
+
+  abbrev times_without : (p : Pace) (old : Driver S) (schedule : List ℕ) (result : Result (Option Ran) TurnFault) (new : Driver S) → Without p old schedule result new → List ℕ
+  times_without = times_of makes view waits keeps none
+
+  -- what stands below a turn of a run at these costs, and the times there
+  abbrev BelowAtZero : (p : Pace) (old new mid : Driver S) (rest : List ℕ) (t : Turn) (asks : S → Type 0) (answer : Result Answer TurnFault) (result : Result (Option Ran) TurnFault) → Type 0
+  BelowAtZero p old new mid rest t asks answer result = EndsOrGoes old mid queues p t answer rest result new (AtZero asks (pace_after old mid queues p t (go_answer answer)) mid rest result new)
+
+  abbrev below_at_zero : (p : Pace) (old new mid : Driver S) (rest : List ℕ) (t : Turn) (asks : S → Type 0) (answer : Result Answer TurnFault) (result : Result (Option Ran) TurnFault)
+      → BelowAtZero p old new mid rest t asks answer result → List ℕ
+  below_at_zero p old new mid rest t asks answer result =
+      times_below old mid queues p t answer rest result new (AtZero asks (pace_after old mid queues p t (go_answer answer)) mid rest result new)
+      (times_at_zero asks (pace_after old mid queues p t (go_answer answer)) mid rest result new)
+
+  -- and of one without costs
+  abbrev BelowWithout : (p : Pace) (g : Free) (d : ℕ → Clock) (old new mid : Driver S) (rest : List ℕ) (u : Turn) (answer : Result Answer TurnFault) (r : Result (Option Ran) TurnFault) → Type 0
+  BelowWithout p g d old new mid rest u answer r =
+      EndsOrGoes old mid false (its_pace p g d) u answer rest r new (Without (pace_after old mid false (its_pace p g d) u (go_answer answer)) mid rest r new)
+
+  abbrev below_without : (p : Pace) (g : Free) (d : ℕ → Clock) (old new mid : Driver S) (rest : List ℕ) (u : Turn) (answer : Result Answer TurnFault) (r : Result (Option Ran) TurnFault)
+      → BelowWithout p g d old new mid rest u answer r → List ℕ
+  below_without p g d old new mid rest u answer r =
+      times_below old mid false (its_pace p g d) u answer rest r new (Without (pace_after old mid false (its_pace p g d) u (go_answer answer)) mid rest r new)
+      (times_without (pace_after old mid false (its_pace p g d) u (go_answer answer)) mid rest r new)
 
   module _ (p : Pace) (g : Free) (d : ℕ → Clock) (old new mid : Driver S) (x : ArePaced queues old.book.cores p.held p.free g p.clocks d) (t : Turn) (costs : CostsNone t.price)
       (first : IsFirst g (λ k. no_price) (dues (held_in holds old.book p.held) d) old.book.cores (unpriced t)) (cores : mid.book.cores ≡ old.book.cores) (rest : List ℕ) where
@@ -376,47 +407,55 @@ module _ {S : Type 0} (makes : S → Call → S → Type 0) (view : S → StoreV
     one_end end = ends_alike queues old.book.cores p.held p.free g p.clocks d x t costs (held_in holds old.book p.held) has_hand first old mid (Over end) old.book.cores end
 
     pub forth : (answer : Result Answer TurnFault) (result : Result (Option Ran) TurnFault)
-        → ((a : Answer) → AtZero keeps (next a) mid rest result new → (r : Result (Option Ran) TurnFault) × Without (its_next a) mid rest r new × ComeToOne queues result r)
-        → EndsOrGoes old mid queues p t answer rest result new (AtZero keeps (next (go_answer answer)) mid rest result new)
-        → (r : Result (Option Ran) TurnFault) × EndsOrGoes old mid false (its_pace p g d) (unpriced t) answer rest r new (Without (its_next (go_answer answer)) mid rest r new)
-        × ComeToOne queues result r
+        → ((a : Answer) (e : AtZero keeps (next a) mid rest result new)
+        → (r : Result (Option Ran) TurnFault) × (y : Without (its_next a) mid rest r new) × ComeToOne queues result r
+        × (times_without (its_next a) mid rest r new y ≡ times_at_zero keeps (next a) mid rest result new e))
+        → (e : BelowAtZero p old new mid rest t keeps answer result)
+        → (r : Result (Option Ran) TurnFault)
+        × (y : BelowWithout p g d old new mid rest (unpriced t) answer r) × ComeToOne queues result r
+        × (below_without p g d old new mid rest (unpriced t) answer r y ≡ below_at_zero p old new mid rest t keeps answer result e)
     forth (Ok (Over end)) result more e =
-        (_, (e.0, e.1, refl), subst (λ y. ComeToOne queues y (Ok (Some (ran_at old.book.cores (over_at g t.at no_price) (clocks_after old mid (late_clocks false d (unpriced t)) (unpriced t) (Over end)) end)))) (sym e.2) (one_end end))
-    forth (Ok (Stopped cause)) result more e = (Ok None, (e.0, e.1, refl), subst (λ y. ComeToOne queues y (Ok None)) (sym e.2) refl)
-    forth (Err fault) result more e = (Err fault, (e.0, e.1, refl), subst (λ y. ComeToOne queues y (Err fault)) (sym e.2) refl)
+        (_, (e.0, e.1, refl), subst (λ y. ComeToOne queues y (Ok (Some (ran_at old.book.cores (over_at g t.at no_price) (clocks_after old mid (late_clocks false d (unpriced t)) (unpriced t) (Over end)) end)))) (sym e.2) (one_end end), refl)
+    forth (Ok (Stopped cause)) result more e = (Ok None, (e.0, e.1, refl), subst (λ y. ComeToOne queues y (Ok None)) (sym e.2) refl, refl)
+    forth (Err fault) result more e = (Err fault, (e.0, e.1, refl), subst (λ y. ComeToOne queues y (Err fault)) (sym e.2) refl, refl)
     forth (Ok (Go hart)) result more e = more (Go hart) e
     forth (Ok (Again cause)) result more e = more (Again cause) e
     forth (Ok Left) result more e = more Left e
 
     pub back : (answer : Result Answer TurnFault) (r : Result (Option Ran) TurnFault)
-        → ((a : Answer) → Without (its_next a) mid rest r new → (result : Result (Option Ran) TurnFault) × AtZero (λ store. Unit {0}) (next a) mid rest result new × ComeToOne queues result r)
-        → EndsOrGoes old mid false (its_pace p g d) (unpriced t) answer rest r new (Without (its_next (go_answer answer)) mid rest r new)
-        → (result : Result (Option Ran) TurnFault) × EndsOrGoes old mid queues p t answer rest result new (AtZero (λ store. Unit {0}) (next (go_answer answer)) mid rest result new)
-        × ComeToOne queues result r
+        → ((a : Answer) (y : Without (its_next a) mid rest r new)
+        → (result : Result (Option Ran) TurnFault) × (e : AtZero asks_none (next a) mid rest result new) × ComeToOne queues result r
+        × (times_at_zero asks_none (next a) mid rest result new e ≡ times_without (its_next a) mid rest r new y))
+        → (y : BelowWithout p g d old new mid rest (unpriced t) answer r)
+        → (result : Result (Option Ran) TurnFault)
+        × (e : BelowAtZero p old new mid rest t asks_none answer result) × ComeToOne queues result r
+        × (below_at_zero p old new mid rest t asks_none answer result e ≡ below_without p g d old new mid rest (unpriced t) answer r y)
     back (Ok (Over end)) r more e =
-        (_, (e.0, e.1, refl), subst (ComeToOne queues (Ok (Some (ran_at old.book.cores (over_at p.free t.at t.price) (clocks_after old mid (late_clocks queues p.clocks t) t (Over end)) end)))) (sym e.2) (one_end end))
-    back (Ok (Stopped cause)) r more e = (Ok None, (e.0, e.1, refl), e.2)
-    back (Err fault) r more e = (Err fault, (e.0, e.1, refl), e.2)
+        (_, (e.0, e.1, refl), subst (ComeToOne queues (Ok (Some (ran_at old.book.cores (over_at p.free t.at t.price) (clocks_after old mid (late_clocks queues p.clocks t) t (Over end)) end)))) (sym e.2) (one_end end), refl)
+    back (Ok (Stopped cause)) r more e = (Ok None, (e.0, e.1, refl), e.2, refl)
+    back (Err fault) r more e = (Err fault, (e.0, e.1, refl), e.2, refl)
     back (Ok (Go hart)) r more e = more (Go hart) e
     back (Ok (Again cause)) r more e = more (Again cause) e
     back (Ok Left) r more e = more Left e
 
   pub run_without : (schedule : List ℕ) (p : Pace) (g : Free) (d : ℕ → Clock) (old new : Driver S) (result : Result (Option Ran) TurnFault)
-      → ArePaced queues old.book.cores p.held p.free g p.clocks d → AtZero keeps p old schedule result new
-      → (r : Result (Option Ran) TurnFault) × Without (its_pace p g d) old schedule r new × ComeToOne queues result r
-  run_without [] p g d old new result x e = (Ok None, (e.0, refl), subst (λ y. ComeToOne queues y (Ok None)) (sym e.1) refl)
+      → ArePaced queues old.book.cores p.held p.free g p.clocks d → (e : AtZero keeps p old schedule result new)
+      → (r : Result (Option Ran) TurnFault) × (y : Without (its_pace p g d) old schedule r new) × ComeToOne queues result r
+      × (times_without (its_pace p g d) old schedule r new y ≡ times_at_zero keeps p old schedule result new e)
+  run_without [] p g d old new result x e = (Ok None, (e.0, refl), subst (λ y. ComeToOne queues y (Ok None)) (sym e.1) refl, refl)
   run_without (core ∷ rest) p g d old new result x (t, mid, answer, is, kept, first, turned, more) =
       let first' = first_without p g d old x t first in
       let costs = subst CostsNone (sym first.price) (zero_prices prices waits old.book p.held t.core) in
       let cores = same_cores makes view waits old mid t.core (p.held t.core) answer turned in
       let paced = paced_next p g d old new mid x t costs first' cores rest in
       let found = forth p g d old new mid x t costs first' cores rest answer result (λ a. run_without rest (pace_after old mid queues p t a) _ _ mid new result (paced a)) more in
-      (found.0, (unpriced t, mid, answer, is, (kept.0, tt), first', turned, found.1), found.2)
+      (found.0, (unpriced t, mid, answer, is, (kept.0, tt), first', turned, found.1), found.2, ap (λ l. t.at ∷ l) found.3)
 
   pub run_at_zero : (schedule : List ℕ) (p : Pace) (g : Free) (d : ℕ → Clock) (old new : Driver S) (r : Result (Option Ran) TurnFault)
-      → ArePaced queues old.book.cores p.held p.free g p.clocks d → Without (its_pace p g d) old schedule r new
-      → (result : Result (Option Ran) TurnFault) × AtZero (λ store. Unit {0}) p old schedule result new × ComeToOne queues result r
-  run_at_zero [] p g d old new r x e = (Ok None, (e.0, refl), e.1)
+      → ArePaced queues old.book.cores p.held p.free g p.clocks d → (y : Without (its_pace p g d) old schedule r new)
+      → (result : Result (Option Ran) TurnFault) × (e : AtZero asks_none p old schedule result new) × ComeToOne queues result r
+      × (times_at_zero asks_none p old schedule result new e ≡ times_without (its_pace p g d) old schedule r new y)
+  run_at_zero [] p g d old new r x e = (Ok None, (e.0, refl), e.1, refl)
   run_at_zero (core ∷ rest) p g d old new r x (u, mid, answer, is, kept, first, turned, more) =
       let unpaid : u ≡ unpriced u = λ i. record u { price = first.price i } in
       let first' : IsFirst g (λ k. no_price) (dues (held_in holds old.book p.held) d) old.book.cores (unpriced u) =
@@ -425,14 +464,17 @@ module _ {S : Type 0} (makes : S → Call → S → Type 0) (view : S → StoreV
       let costs = zero_prices prices waits old.book p.held u.core in
       let cores = same_cores makes view waits old mid u.core (p.held u.core) answer turned in
       let paced = paced_next p g d old new mid x t costs first' cores rest in
-      let its_more = subst (λ v. EndsOrGoes old mid false (its_pace p g d) v answer rest r new (Without (pace_after old mid false (its_pace p g d) v (go_answer answer)) mid rest r new)) unpaid more in
-      let found = back p g d old new mid x t costs first' cores rest answer r (λ a. run_at_zero rest (pace_after old mid queues p t a) _ _ mid new r (paced a)) its_more in
-      (found.0, (t, mid, answer, is, (kept.0, tt), first_at_zero p g d old x (unpriced u) first', turned, found.1), found.2)
+      let its = subst (λ v. (y : BelowWithout p g d old new mid rest v answer r) × (below_without p g d old new mid rest v answer r y ≡ below_without p g d old new mid rest u answer r more))
+      unpaid (more, refl) in
+      let found = back p g d old new mid x t costs first' cores rest answer r (λ a. run_at_zero rest (pace_after old mid queues p t a) _ _ mid new r (paced a)) its.0 in
+      (found.0, (t, mid, answer, is, (kept.0, tt), first_at_zero p g d old x (unpriced u) first', turned, found.1), found.2, ap (λ l. t.at ∷ l) (found.3 ∙ its.1))
 
 pub runs_without : {S : Type 0} (makes : S → Call → S → Type 0) (view : S → StoreView) (waits : S → StoreWaits) (prices : S → Prices) (keeps : S → Type 0) → AreRunsWithout makes view waits prices keeps
-runs_without makes view waits prices keeps holds queues old new schedule result e =
-    run_without makes view waits prices keeps holds queues schedule at_first all_free at_first.clocks old new result (paced_at_first queues old.book.cores) e
+runs_without makes view waits prices keeps holds queues old new schedule times result e =
+    let found = run_without makes view waits prices keeps holds queues schedule at_first all_free at_first.clocks old new result (paced_at_first queues old.book.cores) e.0 in
+    (found.0, (found.1, found.3 ∙ e.1), found.2)
 
 pub runs_at_zero : {S : Type 0} (makes : S → Call → S → Type 0) (view : S → StoreView) (waits : S → StoreWaits) (prices : S → Prices) (keeps : S → Type 0) → AreRunsAtZero makes view waits prices keeps
-runs_at_zero makes view waits prices keeps holds queues old new schedule r e =
-    run_at_zero makes view waits prices keeps holds queues schedule at_first all_free at_first.clocks old new r (paced_at_first queues old.book.cores) e
+runs_at_zero makes view waits prices keeps holds queues old new schedule times r e =
+    let found = run_at_zero makes view waits prices keeps holds queues schedule at_first all_free at_first.clocks old new r (paced_at_first queues old.book.cores) e.0 in
+    (found.0, (found.1, found.3 ∙ e.1), found.2)

@@ -1,33 +1,39 @@
 -- That costs which are all 0 change nothing: a run at these is the run without costs, turn for turn.
 -- Source: this project.
-use Rattle.std.specs.Prelude.{◌≡◌, ℕ, ◌+◌, ◌≤◌, Bool, true, false, List, Option, Some, None, Result, Ok, Err}
+use Rattle.std.specs.Prelude.{◌≡◌, ℕ, ◌+◌, ◌≤◌, Bool, true, false, List, [], ◌∷◌, Option, Some, None, Result, Ok, Err}
 use Rattle.violations.specs.View.{StoreView, Waits}
 use Rattle.violations.specs.Calls.{Call}
+use Rattle.homefree.specs.declared.answer.Answer.{Answer}
+use Rattle.homefree.specs.declared.answer.Answer.TheVariants.{Go, Again, Left, Over, Stopped}
 use Rattle.homefree.specs.declared.fault.TurnFault.{TurnFault}
 use Rattle.homefree.specs.Driven.{Driver}
 use Rattle.turn_costs.specs.Costs.{bus_costs}
 use Rattle.turn_costs.specs.Prices.{Prices}
 use Rattle.even_speed.specs.declared.account.Account.{Account}
+use Rattle.even_speed.specs.declared.clocks.Turn.{Turn}
 use Rattle.even_speed.specs.declared.run.Ran.{Ran}
-use Rattle.even_speed.specs.Even.{Evenly, at_first, pacing}
+use Rattle.even_speed.specs.Account.{useful_in}
+use Rattle.even_speed.specs.Even.{EndsOrGoes, Evenly, Pace, Pacing, at_first, go_answer, pace_after, pacing}
 use Rattle.even_speed.specs.Held.{Holding}
+
+-- ---- what two runs come to, the first at such costs, the second without costs
 
 -- an account without its steps in a queue, held, lost and dropped
 abbrev pub but_for_late : Account → Account
 but_for_late a = record a { spent = record a.spent { queue = 0 }; lost = 0; dropped = 0; held = 0 }
 
--- of the accounts of two runs with the same turns, where the first may tell as queue what the second tells as held
+-- where the first tells who is late as in a queue, what the second tells as held is the attempt's there: useful, lost or dropped with it
 pub record AreOneAccount (queues : Bool) (a b : Account) : Type 0 where
   pub none_held : queues ≡ true → a.held ≡ 0
   pub none_queues : b.spent.queue ≡ 0
-  -- what the second tells as held is the attempt's in the first: useful, lost or dropped with it
-  pub late : a.spent.queue + a.lost + a.dropped + a.held ≡ b.lost + b.dropped + b.held
+  pub useful : useful_in a ≡ useful_in b + a.spent.queue
   pub lost : b.lost ≤ a.lost
   pub dropped : b.dropped ≤ a.dropped
-  -- and all else is the same
+  pub late : a.spent.queue + a.lost + a.dropped + a.held ≡ b.lost + b.dropped + b.held
+  -- all else is the same
   pub rest : but_for_late a ≡ but_for_late b
 
--- what the runs came to: where the first tells no queue, they came to the same
+-- where the first tells no queue, all is the same
 pub record AreOneRun (queues : Bool) (r s : Ran) : Type 0 where
   pub end : r.end ≡ s.end
   pub steps : r.steps ≡ s.steps
@@ -41,19 +47,46 @@ ComeToOne queues (Ok (Some r)) (Err fault) = ⊥
 ComeToOne queues (Ok None) other = other ≡ Ok None
 ComeToOne queues (Err fault) other = other ≡ Err fault
 
--- a run at costs that are all 0 is one without costs: the same turns lead to the same book, and come to the same
+-- ---- the times of turns
+
+-- of those below a turn, where it doesn't end the run
+abbrev pub times_below : {S : Type 0} (old mid : Driver S) (queues : Bool) (p : Pace) (t : Turn) (answer : Result Answer TurnFault) (rest : List ℕ) (result : Result (Option Ran) TurnFault) (new : Driver S)
+    (more : Type 0) → (more → List ℕ) → EndsOrGoes old mid queues p t answer rest result new more → List ℕ
+times_below old mid queues p t (Ok (Over end)) rest result new more times e = []
+times_below old mid queues p t (Ok (Stopped cause)) rest result new more times e = []
+times_below old mid queues p t (Err fault) rest result new more times e = []
+times_below old mid queues p t (Ok (Go hart)) rest result new more times e = times e
+times_below old mid queues p t (Ok (Again cause)) rest result new more times e = times e
+times_below old mid queues p t (Ok Left) rest result new more times e = times e
+
+-- when each turn of a run begins
+abbrev pub times_of : {S : Type 0} (makes : S → Call → S → Type 0) (view : S → StoreView) (waits : S → Waits) (keeps : S → Type 0) (paced : Pacing S) (p : Pace) (old : Driver S) (schedule : List ℕ)
+    (result : Result (Option Ran) TurnFault) (new : Driver S) → Evenly makes view waits keeps paced p old schedule result new → List ℕ
+times_of makes view waits keeps paced p old [] result new e = []
+times_of makes view waits keeps paced p old (core ∷ rest) result new (t, mid, answer, is, kept, first, turned, more) =
+    t.at ∷ times_below old mid paced.queues p t answer rest result new (Evenly makes view waits keeps paced (pace_after old mid paced.queues p t (go_answer answer)) mid rest result new)
+    (times_of makes view waits keeps paced (pace_after old mid paced.queues p t (go_answer answer)) mid rest result new) more
+
+-- a run from its start on, whose turns begin at these times
+abbrev pub EvenlyAt : {S : Type 0} → (S → Call → S → Type 0) → (S → StoreView) → (S → Waits) → (S → Type 0) → Pacing S → Driver S → List ℕ → List ℕ → Result (Option Ran) TurnFault → Driver S → Type 0
+EvenlyAt makes view waits keeps paced old schedule times result new =
+    (e : Evenly makes view waits keeps paced at_first old schedule result new) × (times_of makes view waits keeps paced at_first old schedule result new e ≡ times)
+
+-- ---- the law
+
+-- a run at costs that are all 0 is one without costs: the same turns, at the same times, lead to the same book and come to the same
 abbrev pub AreRunsWithout : {S : Type 0} → (S → Call → S → Type 0) → (S → StoreView) → (S → Waits) → (S → Prices) → (S → Type 0) → Type 0
 AreRunsWithout {S} makes view waits prices keeps =
-    (holds : Holding) (queues : Bool) (old new : Driver S) (schedule : List ℕ) (result : Result (Option Ran) TurnFault)
-    → Evenly makes view waits keeps (pacing prices holds queues (Some (bus_costs 0))) at_first old schedule result new
-    → (without : Result (Option Ran) TurnFault) × Evenly makes view waits keeps (pacing prices holds queues None) at_first old schedule without new
+    (holds : Holding) (queues : Bool) (old new : Driver S) (schedule times : List ℕ) (result : Result (Option Ran) TurnFault)
+    → EvenlyAt makes view waits keeps (pacing prices holds queues (Some (bus_costs 0))) old schedule times result new
+    → (without : Result (Option Ran) TurnFault) × EvenlyAt makes view waits keeps (pacing prices holds queues None) old schedule times without new
     × ComeToOne queues result without
 
 -- and one without costs is one at these, where nothing is asked of the stores on which prices stand
 abbrev pub AreRunsAtZero : {S : Type 0} → (S → Call → S → Type 0) → (S → StoreView) → (S → Waits) → (S → Prices) → (S → Type 0) → Type 0
 AreRunsAtZero {S} makes view waits prices keeps =
-    (holds : Holding) (queues : Bool) (old new : Driver S) (schedule : List ℕ) (without : Result (Option Ran) TurnFault)
-    → Evenly makes view waits keeps (pacing prices holds queues None) at_first old schedule without new
+    (holds : Holding) (queues : Bool) (old new : Driver S) (schedule times : List ℕ) (without : Result (Option Ran) TurnFault)
+    → EvenlyAt makes view waits keeps (pacing prices holds queues None) old schedule times without new
     → (result : Result (Option Ran) TurnFault)
-    × Evenly makes view waits (λ store. Unit {0}) (pacing prices holds queues (Some (bus_costs 0))) at_first old schedule result new
+    × EvenlyAt makes view waits (λ store. Unit {0}) (pacing prices holds queues (Some (bus_costs 0))) old schedule times result new
     × ComeToOne queues result without

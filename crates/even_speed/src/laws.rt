@@ -15,8 +15,8 @@ pub fn run_is_fixed<S: PricedStore>()
     actions_are_fixed::<S>();
 }
 
-/// Costs that are all 0 change nothing: from the start of a run the same schedules run as without costs, and lead to the same book, in
-/// as many steps.
+/// Costs that are all 0 change nothing: from the start of a run the same turns, at the same times, lead to the same book and come to
+/// the same, with these costs or without any. Where loads wait, what is told as queue at these costs is told as held without.
 pub fn zero_costs_change_nothing<S: PricedStore>()
     ensures without { AreRunsWithout S.makes S.view S.waits S.prices S.keeps }
     ensures at_zero { AreRunsAtZero S.makes S.view S.waits S.prices S.keeps }
