@@ -1,5 +1,5 @@
 -- What the code keeps of each core is what the history leads to, and so is which cores are held.
-use Rattle.std.proofs.Common.{◌≡◌, ℕ, ◌==◌, ◌/◌, ◌&&◌, ◌||◌, not, is_none, nat_le, Bool, true, false, cond, List, [], ◌∷◌, ◌++◌, length, take, drop, get_or, All, ◌+◌, ◌-◌, ◌<◌, ◌≤◌, Option, Some, None, option_map, refl, sym, ap, subst, ◌∙◌, inl, inr, arith, eq-eqb, eqb-true, ne_eqb, true≢false}
+use Rattle.std.proofs.Common.{◌≡◌, ℕ, ◌==◌, ◌&&◌, ◌||◌, not, is_none, nat_le, Bool, true, false, cond, List, [], ◌∷◌, ◌++◌, length, take, drop, get_or, All, ◌+◌, ◌-◌, ◌<◌, ◌≤◌, Option, Some, None, option_map, refl, sym, ap, subst, ◌∙◌, inl, inr, arith, eq-eqb, eqb-true, ne_eqb, true≢false}
 use Rattle.std.specs.List.{list_any}
 use Rattle.std.proofs.Math.Dec.{eqb-suc-zero}
 use Rattle.std.proofs.Math.Path.{fun_ext}
@@ -186,7 +186,7 @@ none_held holds places none image homefree (Some epoch) own None = refl
 none_held holds places none image homefree (Some epoch) own (Some hart) =
     ap (λ b. not (epoch == homefree) && b) (none_waiting holds places none homefree epoch (arrival_of image hart).now.pc own (arrival_of image hart).at) ∙ and_no (not (epoch == homefree))
 
-no_cores_held : (holds : Holding) → ((pc : ℕ) → holds.places pc ≡ false) → ((d piece : ℕ) → holds.stores d piece ≡ false) → (image : LoadedImage) (state : Option FlatState) (hands : ℕ → Option HartState) (k : ℕ)
+pub no_cores_held : (holds : Holding) → ((pc : ℕ) → holds.places pc ≡ false) → ((d piece : ℕ) → holds.stores d piece ≡ false) → (image : LoadedImage) (state : Option FlatState) (hands : ℕ → Option HartState) (k : ℕ)
     → are_held holds image state hands k ≡ false
 no_cores_held holds places none image None hands k = refl
 no_cores_held holds places none image (Some s) hands k = none_held holds places none image s.homefree (epoch_run (s.cores k)) (own_run (s.cores k)) (hands k)

@@ -62,6 +62,25 @@ late_alike false due at c d soon a = record {
   dropped = a.dropped;
 }
 
+-- where it isn't late, both tell the same
+pub late_same : (queues : Bool) (due at : ℕ) (c : Clock) → at - due ≡ 0 → late queues due at c ≡ late false due at c
+late_same true due at c none = λ i. record c {
+  next = Due at;
+  waited = waited i;
+  spent = record c.spent { queue = queue i };
+  account = record c.account { held = held i };
+}
+  where
+    waited : c.waited ≡ c.waited + (at - due)
+    waited = omega (arith, none)
+
+    queue : c.spent.queue + (at - due) ≡ c.spent.queue
+    queue = omega (arith, none)
+
+    held : c.account.held ≡ c.account.held + (at - due)
+    held = omega (arith, none)
+late_same false due at c none = refl
+
 -- ---- a clock whose next turn is set, or that pays nothing more
 
 next_set : (queues : Bool) (next : Next) (c d : Clock) → AreAlike queues c d → AreAlike queues (record c { next = next }) (record d { next = next })

@@ -1,5 +1,6 @@
 -- That a run at costs that are all 0 is the run without costs, turn for turn.
 use Rattle.std.proofs.Common.{◌≡◌, ◌⊎◌, ℕ, ◌+◌, ◌-◌, ◌<◌, ◌≤◌, ◌==◌, Bool, true, false, cond, List, [], ◌∷◌, Option, Some, None, Result, Ok, Err, option_map, refl, sym, ap, subst, inl, inr, ◌∙◌, arith, eqb-true, true≢false}
+use Rattle.std.proofs.Math.Path.{fun_ext}
 use Rattle.std.proofs.lemmas.Option.{same_Some}
 use Rattle.rv32_exec.specs.declared.sequential.End.{End}
 use Rattle.rv32_exec.specs.Hart.{HartState}
@@ -31,10 +32,11 @@ use Rattle.even_speed.specs.Even.{EndsOrGoes, Evenly, Pace, Pacing, at_first, cl
 use Rattle.even_speed.specs.Held.{Holding, are_held, epoch_run, held_in, is_held, own_run}
 use Rattle.even_speed.specs.Kept.{IsSound, used}
 use Rattle.even_speed.specs.Pricing.{all_free, begins, free_after, later, no_price, over_at}
-use Rattle.even_speed.specs.ZeroCosts.{AreOneAccount, AreOneRun, AreRunsAtZero, AreRunsWithout, ComeToOne, times_below, times_of}
+use Rattle.even_speed.specs.ZeroCosts.{AreOneAccount, AreOneRun, ChangeNothing, ComeToOne, WaitsNone, times_below, times_of}
+use Rattle.even_speed.proofs.Seated.{no_cores_held}
 use Rattle.even_speed.proofs.Sounding.{answered_sound, first_sound, free_due, late_sound, later_least, later_of, sound_later, used_due, woken_at_end, woken_sound, order_calm}
 use Rattle.even_speed.proofs.ZeroPrices.{CostsNone, IsCalm, begins_calm, calm_after, first_again, over_zero, zero_prices}
-use Rattle.even_speed.proofs.ZeroClocks.{AreAlike, account_alike, answered_alike, late_alike, next_alike, runs_alike, woken_alike}
+use Rattle.even_speed.proofs.ZeroClocks.{AreAlike, account_alike, answered_alike, late_alike, late_same, next_alike, runs_alike, woken_alike}
 
 -- ---- the turn without costs
 
@@ -74,16 +76,16 @@ woken_runs Gone at c = refl
 -- ---- two runs with the same turns
 
 -- what is free, and the clocks, of the run at no cost and of the one without costs, with the same in hand
-pub record ArePaced (queues : Bool) (cores : ℕ) (hands : ℕ → Option HartState) (f g : Free) (c d : ℕ → Clock) : Type 0 where
+pub record ArePaced (queues : Bool) (holds : Holding) (cores : ℕ) (hands : ℕ → Option HartState) (f g : Free) (c d : ℕ → Clock) : Type 0 where
   pub began : g.began ≡ f.began
   pub calm : IsCalm f
   pub order : g.order ≤ g.began
-  pub same : queues ≡ false → c ≡ d
+  pub same : (queues ≡ false) ⊎ WaitsNone holds → c ≡ d
   pub each : (k : ℕ) → AreAlike queues (c k) (d k)
   pub sound : (k : ℕ) → IsSound g.began g.began (d k)
-  -- who has something in hand runs an attempt, and so does who was due before the last turn
+  -- who has something in hand runs an attempt, and so does who was due before the last turn: then some load waits
   pub hand : (k : ℕ) (h : HartState) → hands k ≡ Some h → (d k).runs ≡ true
-  pub soon : (k due : ℕ) → k < cores → due_of (d k).next ≡ Some due → (g.began ≤ due) ⊎ ((d k).runs ≡ true)
+  pub soon : (k due : ℕ) → k < cores → due_of (d k).next ≡ Some due → (g.began ≤ due) ⊎ (((d k).runs ≡ true) × (WaitsNone holds → ⊥))
 
 first_alike : (queues : Bool) → AreAlike queues first_clock first_clock
 first_alike queues = record {
@@ -98,8 +100,8 @@ first_alike queues = record {
   dropped = omega arith;
 }
 
-paced_at_first : (queues : Bool) (cores : ℕ) → ArePaced queues cores at_first.held all_free all_free at_first.clocks at_first.clocks
-paced_at_first queues cores = record {
+paced_at_first : (queues : Bool) (holds : Holding) (cores : ℕ) → ArePaced queues holds cores at_first.held all_free all_free at_first.clocks at_first.clocks
+paced_at_first queues holds cores = record {
   began = refl;
   calm = record { bus = omega arith; order = omega arith };
   order = omega arith;
@@ -112,8 +114,8 @@ paced_at_first queues cores = record {
 
 -- ---- a turn begins
 
-module _ (queues : Bool) (cores : ℕ) (hands : ℕ → Option HartState) (f g : Free) (c d : ℕ → Clock) (x : ArePaced queues cores hands f g c d) (t : Turn) (none : CostsNone t.price) (held : ℕ → Bool)
-    (has : (k : ℕ) → held k ≡ true → (h : HartState) × (hands k ≡ Some h)) (first : IsFirst g (λ k. no_price) (dues held d) cores (unpriced t)) where
+module _ (queues : Bool) (holds : Holding) (cores : ℕ) (hands : ℕ → Option HartState) (f g : Free) (c d : ℕ → Clock) (x : ArePaced queues holds cores hands f g c d) (t : Turn) (none : CostsNone t.price) (held : ℕ → Bool)
+    (has : (k : ℕ) → held k ≡ true → (h : HartState) × (hands k ≡ Some h)) (unheld : WaitsNone holds → (k : ℕ) → held k ≡ false) (first : IsFirst g (λ k. no_price) (dues held d) cores (unpriced t)) where
   at_is : t.at ≡ later g.began t.due
   at_is = first.begins_at
 
@@ -130,12 +132,27 @@ module _ (queues : Bool) (cores : ℕ) (hands : ℕ → Option HartState) (f g :
   in_time : (c t.core).runs ≡ false → t.at - t.due ≡ 0
   in_time idle = elim (x.soon t.core t.due first.core was_due) [
     | inl less ↦ let is = later_of g.began t.due less in omega (arith, at_is, is)
-    | inr runs ↦ absurd (true≢false (sym runs ∙ (runs_alike queues (c t.core) (d t.core) (x.each t.core) ∙ idle)))
+    | inr y ↦ absurd (true≢false (sym y.0 ∙ (runs_alike queues (c t.core) (d t.core) (x.each t.core) ∙ idle)))
   ]
 
+  -- and where no load waits
+  prompt : WaitsNone holds → t.at - t.due ≡ 0
+  prompt none = elim (x.soon t.core t.due first.core was_due) [
+    | inl less ↦ let is = later_of g.began t.due less in omega (arith, at_is, is)
+    | inr y ↦ absurd (y.1 none)
+  ]
+
+  late_one : (none : WaitsNone holds) (k : ℕ) (here : Bool) → cond here (late queues t.due t.at (c k)) (c k) ≡ cond here (late false t.due t.at (c k)) (c k)
+  late_one none k true = late_same queues t.due t.at (c k) (prompt none)
+  late_one none k false = refl
+
+  lates_same : (queues ≡ false) ⊎ WaitsNone holds → late_clocks queues c t ≡ late_clocks false d t
+  lates_same (inl is) = λ i. late_clocks (is i) (x.same (inl is) i) t
+  lates_same (inr none) = fun_ext (λ k. late_one none k (k == t.core)) ∙ ap (λ y. late_clocks false y t) (x.same (inr none))
+
   -- so was every other core
-  still_soon : (k due : ℕ) (is : Bool) → held k ≡ is → k < cores → due_of (d k).next ≡ Some due → (t.at ≤ due) ⊎ ((d k).runs ≡ true)
-  still_soon k due true is below at = let h = has k is in inr (x.hand k h.0 h.1)
+  still_soon : (k due : ℕ) (is : Bool) → held k ≡ is → k < cores → due_of (d k).next ≡ Some due → (t.at ≤ due) ⊎ (((d k).runs ≡ true) × (WaitsNone holds → ⊥))
+  still_soon k due true is below at = let h = has k is in inr (x.hand k h.0 h.1, λ none. true≢false (sym is ∙ unheld none k))
   still_soon k due false is below at = elim (x.soon k due below at) [
     | inl less ↦
         let soonest : t.at ≤ later g.began due = first.soonest k due below (rw is at) in
@@ -219,7 +236,7 @@ module _ (queues : Bool) (cores : ℕ) (hands : ℕ → Option HartState) (f g :
 
     turned_soon : (a : Answer) (k due : ℕ) (here : Bool) → (k == t.core) ≡ here → k < cores
         → due_of (cond here (answered t.at restarted executed nothing_spent a (late_clocks false d t k)) (late_clocks false d t k)).next ≡ Some due
-        → (t.at ≤ due) ⊎ ((cond here (answered t.at restarted executed nothing_spent a (late_clocks false d t k)) (late_clocks false d t k)).runs ≡ true)
+        → (t.at ≤ due) ⊎ (((cond here (answered t.at restarted executed nothing_spent a (late_clocks false d t k)) (late_clocks false d t k)).runs ≡ true) × (WaitsNone holds → ⊥))
     turned_soon (Go hart) k due true is below at = let same = same_Some _ due at in inl (omega (arith, same))
     turned_soon (Again cause) k due true is below at = absurd (waits_soon cause due (late_clocks false d t k) at)
     turned_soon Left k due true is below at = let same = same_Some _ due at in inl (omega (arith, same))
@@ -249,14 +266,14 @@ module _ (queues : Bool) (cores : ℕ) (hands : ℕ → Option HartState) (f g :
     wakes_runs (Over end) y k = refl
     wakes_runs (Stopped cause) y k = refl
 
-    woken_soon : (y : Clock) (due : ℕ) (next : Next) → (due_of y.next ≡ Some due → (t.at ≤ due) ⊎ (y.runs ≡ true))
-        → due_of (woken_from next t.at y).next ≡ Some due → (t.at ≤ due) ⊎ (y.runs ≡ true)
+    woken_soon : (y : Clock) (due : ℕ) (next : Next) → (due_of y.next ≡ Some due → (t.at ≤ due) ⊎ ((y.runs ≡ true) × (WaitsNone holds → ⊥)))
+        → due_of (woken_from next t.at y).next ≡ Some due → (t.at ≤ due) ⊎ ((y.runs ≡ true) × (WaitsNone holds → ⊥))
     woken_soon y due (Due at) soon is = soon is
     woken_soon y due (Waits since cause) soon is = let same : t.at ≡ due = same_Some t.at due is in inl (omega (arith, same))
     woken_soon y due Gone soon is = soon is
 
-    wakes_soon : (a : Answer) (y : ℕ → Clock) (k due : ℕ) → (due_of (y k).next ≡ Some due → (t.at ≤ due) ⊎ ((y k).runs ≡ true))
-        → due_of (woken_by a t.at y k).next ≡ Some due → (t.at ≤ due) ⊎ ((y k).runs ≡ true)
+    wakes_soon : (a : Answer) (y : ℕ → Clock) (k due : ℕ) → (due_of (y k).next ≡ Some due → (t.at ≤ due) ⊎ (((y k).runs ≡ true) × (WaitsNone holds → ⊥)))
+        → due_of (woken_by a t.at y k).next ≡ Some due → (t.at ≤ due) ⊎ (((y k).runs ≡ true) × (WaitsNone holds → ⊥))
     wakes_soon (Go hart) y k due soon is = woken_soon (y k) due (y k).next soon is
     wakes_soon (Again cause) y k due soon is = soon is
     wakes_soon Left y k due soon is = woken_soon (y k) due (y k).next soon is
@@ -269,10 +286,10 @@ module _ (queues : Bool) (cores : ℕ) (hands : ℕ → Option HartState) (f g :
     clocks_sound : (k : ℕ) → IsSound t.at t.at (without k)
     clocks_sound k = wakes_sound answer turned (λ j. turned_sound j (j == t.core) refl) k
 
-    clocks_same : queues ≡ false → costing ≡ without
-    clocks_same is = λ i. clocks_after old mid (late_clocks (is i) (x.same is i) t) (record t { price = record no_price { spent = none.spent i } }) answer
+    clocks_same : (queues ≡ false) ⊎ WaitsNone holds → costing ≡ without
+    clocks_same is = λ i. clocks_after old mid (lates_same is i) (record t { price = record no_price { spent = none.spent i } }) answer
 
-    pub paced_after : ArePaced queues cores (with_held hands t.core (held_after answer (hands t.core))) (free_after f t.at t.price answer) (free_after g t.at no_price answer) costing without
+    pub paced_after : ArePaced queues holds cores (with_held hands t.core (held_after answer (hands t.core))) (free_after f t.at t.price answer) (free_after g t.at no_price answer) costing without
     paced_after = record {
       began = refl;
       calm = calm_after f t answer none x.calm (subst (λ n. n ≤ t.at) x.began passes);
@@ -283,12 +300,12 @@ module _ (queues : Bool) (cores : ℕ) (hands : ℕ → Option HartState) (f g :
       hand = λ k h is. wakes_runs answer turned k ∙ turned_hand answer k (k == t.core) h refl is;
       soon = λ k due below is. elim (wakes_soon answer turned k due (turned_soon answer k due (k == t.core) refl below) is) [
         | inl less ↦ inl less
-        | inr runs ↦ inr (wakes_runs answer turned k ∙ runs)
+        | inr y ↦ inr (wakes_runs answer turned k ∙ y.0, y.1)
       ];
     }
 
     -- where it ends the run
-    pub ends_alike : (n : ℕ) (end : End) → AreOneRun queues (ran_at n (over_at f t.at t.price) costing end) (ran_at n (over_at g t.at no_price) without end)
+    pub ends_alike : (n : ℕ) (end : End) → AreOneRun queues holds (ran_at n (over_at f t.at t.price) costing end) (ran_at n (over_at g t.at no_price) without end)
     ends_alike n end = record {
       end = refl;
       steps = steps;
@@ -325,10 +342,6 @@ module _ {S : Type 0} (makes : S → Call → S → Type 0) (view : S → StoreV
   abbrev zero : Pacing S
   zero = pacing prices holds queues (Some (bus_costs 0))
 
-  -- nothing is asked of a store
-  abbrev asks_none : S → Type 0
-  asks_none store = Unit {0}
-
   abbrev none : Pacing S
   none = pacing prices holds queues None
 
@@ -336,7 +349,7 @@ module _ {S : Type 0} (makes : S → Call → S → Type 0) (view : S → StoreV
   abbrev its_pace : Pace → Free → (ℕ → Clock) → Pace
   its_pace p g d = record { held = p.held; clocks = d; free = g }
 
-  module _ (p : Pace) (g : Free) (d : ℕ → Clock) (old : Driver S) (x : ArePaced queues old.book.cores p.held p.free g p.clocks d) where
+  module _ (p : Pace) (g : Free) (d : ℕ → Clock) (old : Driver S) (x : ArePaced queues holds old.book.cores p.held p.free g p.clocks d) where
     abbrev dues_are : (k : ℕ) → dues (held_in holds old.book p.held) d k ≡ dues (held_in holds old.book p.held) p.clocks k
     dues_are k = ap (λ n. cond (held_in holds old.book p.held k) None (due_of n)) (next_alike queues (p.clocks k) (d k) (x.each k))
 
@@ -354,27 +367,27 @@ module _ {S : Type 0} (makes : S → Call → S → Type 0) (view : S → StoreV
         first_again g p.free (λ k. no_price) (prices_in zero.pricing waits old.book p.held) (dues (held_in holds old.book p.held) d) (dues (held_in holds old.book p.held) p.clocks) old.book.cores t
         (λ k due. sym (begins_are k due)) (λ k. sym (dues_are k)) first
 
-  abbrev AtZero : (S → Type 0) → Pace → Driver S → List ℕ → Result (Option Ran) TurnFault → Driver S → Type 0
-  AtZero asks p old schedule result new = Evenly makes view waits asks zero p old schedule result new
+  abbrev AtZero : Pace → Driver S → List ℕ → Result (Option Ran) TurnFault → Driver S → Type 0
+  AtZero p old schedule result new = Evenly makes view waits keeps zero p old schedule result new
 
   abbrev Without : Pace → Driver S → List ℕ → Result (Option Ran) TurnFault → Driver S → Type 0
   Without p old schedule result new = Evenly makes view waits keeps none p old schedule result new
 
-  abbrev times_at_zero : (asks : S → Type 0) (p : Pace) (old : Driver S) (schedule : List ℕ) (result : Result (Option Ran) TurnFault) (new : Driver S) → AtZero asks p old schedule result new → List ℕ
-  times_at_zero asks = times_of makes view waits asks zero
+  abbrev times_at_zero : (p : Pace) (old : Driver S) (schedule : List ℕ) (result : Result (Option Ran) TurnFault) (new : Driver S) → AtZero p old schedule result new → List ℕ
+  times_at_zero = times_of makes view waits keeps zero
 
   abbrev times_without : (p : Pace) (old : Driver S) (schedule : List ℕ) (result : Result (Option Ran) TurnFault) (new : Driver S) → Without p old schedule result new → List ℕ
   times_without = times_of makes view waits keeps none
 
   -- what stands below a turn of a run at these costs, and the times there
-  abbrev BelowAtZero : (p : Pace) (old new mid : Driver S) (rest : List ℕ) (t : Turn) (asks : S → Type 0) (answer : Result Answer TurnFault) (result : Result (Option Ran) TurnFault) → Type 0
-  BelowAtZero p old new mid rest t asks answer result = EndsOrGoes old mid queues p t answer rest result new (AtZero asks (pace_after old mid queues p t (go_answer answer)) mid rest result new)
+  abbrev BelowAtZero : (p : Pace) (old new mid : Driver S) (rest : List ℕ) (t : Turn) (answer : Result Answer TurnFault) (result : Result (Option Ran) TurnFault) → Type 0
+  BelowAtZero p old new mid rest t answer result = EndsOrGoes old mid queues p t answer rest result new (AtZero (pace_after old mid queues p t (go_answer answer)) mid rest result new)
 
-  abbrev below_at_zero : (p : Pace) (old new mid : Driver S) (rest : List ℕ) (t : Turn) (asks : S → Type 0) (answer : Result Answer TurnFault) (result : Result (Option Ran) TurnFault)
-      → BelowAtZero p old new mid rest t asks answer result → List ℕ
-  below_at_zero p old new mid rest t asks answer result =
-      times_below old mid queues p t answer rest result new (AtZero asks (pace_after old mid queues p t (go_answer answer)) mid rest result new)
-      (times_at_zero asks (pace_after old mid queues p t (go_answer answer)) mid rest result new)
+  abbrev below_at_zero : (p : Pace) (old new mid : Driver S) (rest : List ℕ) (t : Turn) (answer : Result Answer TurnFault) (result : Result (Option Ran) TurnFault)
+      → BelowAtZero p old new mid rest t answer result → List ℕ
+  below_at_zero p old new mid rest t answer result =
+      times_below old mid queues p t answer rest result new (AtZero (pace_after old mid queues p t (go_answer answer)) mid rest result new)
+      (times_at_zero (pace_after old mid queues p t (go_answer answer)) mid rest result new)
 
   -- and of one without costs
   abbrev BelowWithout : (p : Pace) (g : Free) (d : ℕ → Clock) (old new mid : Driver S) (rest : List ℕ) (u : Turn) (answer : Result Answer TurnFault) (r : Result (Option Ran) TurnFault) → Type 0
@@ -387,7 +400,7 @@ module _ {S : Type 0} (makes : S → Call → S → Type 0) (view : S → StoreV
       times_below old mid false (its_pace p g d) u answer rest r new (Without (pace_after old mid false (its_pace p g d) u (go_answer answer)) mid rest r new)
       (times_without (pace_after old mid false (its_pace p g d) u (go_answer answer)) mid rest r new)
 
-  module _ (p : Pace) (g : Free) (d : ℕ → Clock) (old new mid : Driver S) (x : ArePaced queues old.book.cores p.held p.free g p.clocks d) (t : Turn) (costs : CostsNone t.price)
+  module _ (p : Pace) (g : Free) (d : ℕ → Clock) (old new mid : Driver S) (x : ArePaced queues holds old.book.cores p.held p.free g p.clocks d) (t : Turn) (costs : CostsNone t.price)
       (first : IsFirst g (λ k. no_price) (dues (held_in holds old.book p.held) d) old.book.cores (unpriced t)) (cores : mid.book.cores ≡ old.book.cores) (rest : List ℕ) where
     abbrev next : Answer → Pace
     next a = pace_after old mid queues p t a
@@ -398,40 +411,43 @@ module _ {S : Type 0} (makes : S → Call → S → Type 0) (view : S → StoreV
     has_hand : (k : ℕ) → held_in holds old.book p.held k ≡ true → (h : HartState) × (p.held k ≡ Some h)
     has_hand = held_hand holds old.book.image (replay old.book.image old.book.cores old.book.history) p.held
 
-    pub paced_next : (a : Answer) → ArePaced queues mid.book.cores (next a).held (next a).free (its_next a).free (next a).clocks (its_next a).clocks
-    paced_next a = subst (λ n. ArePaced queues n (next a).held (next a).free (its_next a).free (next a).clocks (its_next a).clocks) (sym cores)
-        (paced_after queues old.book.cores p.held p.free g p.clocks d x t costs (held_in holds old.book p.held) has_hand first old mid a)
+    no_hold : WaitsNone holds → (k : ℕ) → held_in holds old.book p.held k ≡ false
+    no_hold waits_none k = no_cores_held holds waits_none.places waits_none.stores old.book.image (replay old.book.image old.book.cores old.book.history) p.held k
 
-    one_end : (end : End) → AreOneRun queues (ran_at old.book.cores (over_at p.free t.at t.price) (clocks_after old mid (late_clocks queues p.clocks t) t (Over end)) end)
+    pub paced_next : (a : Answer) → ArePaced queues holds mid.book.cores (next a).held (next a).free (its_next a).free (next a).clocks (its_next a).clocks
+    paced_next a = subst (λ n. ArePaced queues holds n (next a).held (next a).free (its_next a).free (next a).clocks (its_next a).clocks) (sym cores)
+        (paced_after queues holds old.book.cores p.held p.free g p.clocks d x t costs (held_in holds old.book p.held) has_hand no_hold first old mid a)
+
+    one_end : (end : End) → AreOneRun queues holds (ran_at old.book.cores (over_at p.free t.at t.price) (clocks_after old mid (late_clocks queues p.clocks t) t (Over end)) end)
         (ran_at old.book.cores (over_at g t.at no_price) (clocks_after old mid (late_clocks false d (unpriced t)) (unpriced t) (Over end)) end)
-    one_end end = ends_alike queues old.book.cores p.held p.free g p.clocks d x t costs (held_in holds old.book p.held) has_hand first old mid (Over end) old.book.cores end
+    one_end end = ends_alike queues holds old.book.cores p.held p.free g p.clocks d x t costs (held_in holds old.book p.held) has_hand no_hold first old mid (Over end) old.book.cores end
 
     pub forth : (answer : Result Answer TurnFault) (result : Result (Option Ran) TurnFault)
-        → ((a : Answer) (e : AtZero keeps (next a) mid rest result new)
-        → (r : Result (Option Ran) TurnFault) × (y : Without (its_next a) mid rest r new) × ComeToOne queues result r
-        × (times_without (its_next a) mid rest r new y ≡ times_at_zero keeps (next a) mid rest result new e))
-        → (e : BelowAtZero p old new mid rest t keeps answer result)
+        → ((a : Answer) (e : AtZero (next a) mid rest result new)
+        → (r : Result (Option Ran) TurnFault) × (y : Without (its_next a) mid rest r new) × ComeToOne queues holds result r
+        × (times_without (its_next a) mid rest r new y ≡ times_at_zero (next a) mid rest result new e))
+        → (e : BelowAtZero p old new mid rest t answer result)
         → (r : Result (Option Ran) TurnFault)
-        × (y : BelowWithout p g d old new mid rest (unpriced t) answer r) × ComeToOne queues result r
-        × (below_without p g d old new mid rest (unpriced t) answer r y ≡ below_at_zero p old new mid rest t keeps answer result e)
+        × (y : BelowWithout p g d old new mid rest (unpriced t) answer r) × ComeToOne queues holds result r
+        × (below_without p g d old new mid rest (unpriced t) answer r y ≡ below_at_zero p old new mid rest t answer result e)
     forth (Ok (Over end)) result more e =
-        (_, (e.0, e.1, refl), subst (λ y. ComeToOne queues y (Ok (Some (ran_at old.book.cores (over_at g t.at no_price) (clocks_after old mid (late_clocks false d (unpriced t)) (unpriced t) (Over end)) end)))) (sym e.2) (one_end end), refl)
-    forth (Ok (Stopped cause)) result more e = (Ok None, (e.0, e.1, refl), subst (λ y. ComeToOne queues y (Ok None)) (sym e.2) refl, refl)
-    forth (Err fault) result more e = (Err fault, (e.0, e.1, refl), subst (λ y. ComeToOne queues y (Err fault)) (sym e.2) refl, refl)
+        (_, (e.0, e.1, refl), subst (λ y. ComeToOne queues holds y (Ok (Some (ran_at old.book.cores (over_at g t.at no_price) (clocks_after old mid (late_clocks false d (unpriced t)) (unpriced t) (Over end)) end)))) (sym e.2) (one_end end), refl)
+    forth (Ok (Stopped cause)) result more e = (Ok None, (e.0, e.1, refl), subst (λ y. ComeToOne queues holds y (Ok None)) (sym e.2) refl, refl)
+    forth (Err fault) result more e = (Err fault, (e.0, e.1, refl), subst (λ y. ComeToOne queues holds y (Err fault)) (sym e.2) refl, refl)
     forth (Ok (Go hart)) result more e = more (Go hart) e
     forth (Ok (Again cause)) result more e = more (Again cause) e
     forth (Ok Left) result more e = more Left e
 
     pub back : (answer : Result Answer TurnFault) (r : Result (Option Ran) TurnFault)
         → ((a : Answer) (y : Without (its_next a) mid rest r new)
-        → (result : Result (Option Ran) TurnFault) × (e : AtZero asks_none (next a) mid rest result new) × ComeToOne queues result r
-        × (times_at_zero asks_none (next a) mid rest result new e ≡ times_without (its_next a) mid rest r new y))
+        → (result : Result (Option Ran) TurnFault) × (e : AtZero (next a) mid rest result new) × ComeToOne queues holds result r
+        × (times_at_zero (next a) mid rest result new e ≡ times_without (its_next a) mid rest r new y))
         → (y : BelowWithout p g d old new mid rest (unpriced t) answer r)
         → (result : Result (Option Ran) TurnFault)
-        × (e : BelowAtZero p old new mid rest t asks_none answer result) × ComeToOne queues result r
-        × (below_at_zero p old new mid rest t asks_none answer result e ≡ below_without p g d old new mid rest (unpriced t) answer r y)
+        × (e : BelowAtZero p old new mid rest t answer result) × ComeToOne queues holds result r
+        × (below_at_zero p old new mid rest t answer result e ≡ below_without p g d old new mid rest (unpriced t) answer r y)
     back (Ok (Over end)) r more e =
-        (_, (e.0, e.1, refl), subst (ComeToOne queues (Ok (Some (ran_at old.book.cores (over_at p.free t.at t.price) (clocks_after old mid (late_clocks queues p.clocks t) t (Over end)) end)))) (sym e.2) (one_end end), refl)
+        (_, (e.0, e.1, refl), subst (ComeToOne queues holds (Ok (Some (ran_at old.book.cores (over_at p.free t.at t.price) (clocks_after old mid (late_clocks queues p.clocks t) t (Over end)) end)))) (sym e.2) (one_end end), refl)
     back (Ok (Stopped cause)) r more e = (Ok None, (e.0, e.1, refl), e.2, refl)
     back (Err fault) r more e = (Err fault, (e.0, e.1, refl), e.2, refl)
     back (Ok (Go hart)) r more e = more (Go hart) e
@@ -439,10 +455,10 @@ module _ {S : Type 0} (makes : S → Call → S → Type 0) (view : S → StoreV
     back (Ok Left) r more e = more Left e
 
   pub run_without : (schedule : List ℕ) (p : Pace) (g : Free) (d : ℕ → Clock) (old new : Driver S) (result : Result (Option Ran) TurnFault)
-      → ArePaced queues old.book.cores p.held p.free g p.clocks d → (e : AtZero keeps p old schedule result new)
-      → (r : Result (Option Ran) TurnFault) × (y : Without (its_pace p g d) old schedule r new) × ComeToOne queues result r
-      × (times_without (its_pace p g d) old schedule r new y ≡ times_at_zero keeps p old schedule result new e)
-  run_without [] p g d old new result x e = (Ok None, (e.0, refl), subst (λ y. ComeToOne queues y (Ok None)) (sym e.1) refl, refl)
+      → ArePaced queues holds old.book.cores p.held p.free g p.clocks d → (e : AtZero p old schedule result new)
+      → (r : Result (Option Ran) TurnFault) × (y : Without (its_pace p g d) old schedule r new) × ComeToOne queues holds result r
+      × (times_without (its_pace p g d) old schedule r new y ≡ times_at_zero p old schedule result new e)
+  run_without [] p g d old new result x e = (Ok None, (e.0, refl), subst (λ y. ComeToOne queues holds y (Ok None)) (sym e.1) refl, refl)
   run_without (core ∷ rest) p g d old new result x (t, mid, answer, is, kept, first, turned, more) =
       let first' = first_without p g d old x t first in
       let costs = subst CostsNone (sym first.price) (zero_prices prices waits old.book p.held t.core) in
@@ -451,12 +467,12 @@ module _ {S : Type 0} (makes : S → Call → S → Type 0) (view : S → StoreV
       let found = forth p g d old new mid x t costs first' cores rest answer result (λ a. run_without rest (pace_after old mid queues p t a) _ _ mid new result (paced a)) more in
       (found.0, (unpriced t, mid, answer, is, (kept.0, tt), first', turned, found.1), found.2, ap (λ l. t.at ∷ l) found.3)
 
-  pub run_at_zero : (schedule : List ℕ) (p : Pace) (g : Free) (d : ℕ → Clock) (old new : Driver S) (r : Result (Option Ran) TurnFault)
-      → ArePaced queues old.book.cores p.held p.free g p.clocks d → (y : Without (its_pace p g d) old schedule r new)
-      → (result : Result (Option Ran) TurnFault) × (e : AtZero asks_none p old schedule result new) × ComeToOne queues result r
-      × (times_at_zero asks_none p old schedule result new e ≡ times_without (its_pace p g d) old schedule r new y)
-  run_at_zero [] p g d old new r x e = (Ok None, (e.0, refl), e.1, refl)
-  run_at_zero (core ∷ rest) p g d old new r x (u, mid, answer, is, kept, first, turned, more) =
+  pub run_at_zero : ((store : S) → keeps store) → (schedule : List ℕ) (p : Pace) (g : Free) (d : ℕ → Clock) (old new : Driver S) (r : Result (Option Ran) TurnFault)
+      → ArePaced queues holds old.book.cores p.held p.free g p.clocks d → (y : Without (its_pace p g d) old schedule r new)
+      → (result : Result (Option Ran) TurnFault) × (e : AtZero p old schedule result new) × ComeToOne queues holds result r
+      × (times_at_zero p old schedule result new e ≡ times_without (its_pace p g d) old schedule r new y)
+  run_at_zero all [] p g d old new r x e = (Ok None, (e.0, refl), e.1, refl)
+  run_at_zero all (core ∷ rest) p g d old new r x (u, mid, answer, is, kept, first, turned, more) =
       let unpaid : u ≡ unpriced u = λ i. record u { price = first.price i } in
       let first' : IsFirst g (λ k. no_price) (dues (held_in holds old.book p.held) d) old.book.cores (unpriced u) =
       subst (λ v. IsFirst g (λ k. no_price) (dues (held_in holds old.book p.held) d) old.book.cores v) unpaid first in
@@ -466,15 +482,16 @@ module _ {S : Type 0} (makes : S → Call → S → Type 0) (view : S → StoreV
       let paced = paced_next p g d old new mid x t costs first' cores rest in
       let its = subst (λ v. (y : BelowWithout p g d old new mid rest v answer r) × (below_without p g d old new mid rest v answer r y ≡ below_without p g d old new mid rest u answer r more))
       unpaid (more, refl) in
-      let found = back p g d old new mid x t costs first' cores rest answer r (λ a. run_at_zero rest (pace_after old mid queues p t a) _ _ mid new r (paced a)) its.0 in
-      (found.0, (t, mid, answer, is, (kept.0, tt), first_at_zero p g d old x (unpriced u) first', turned, found.1), found.2, ap (λ l. t.at ∷ l) (found.3 ∙ its.1))
+      let found = back p g d old new mid x t costs first' cores rest answer r (λ a. run_at_zero all rest (pace_after old mid queues p t a) _ _ mid new r (paced a)) its.0 in
+      (found.0, (t, mid, answer, is, (kept.0, all old.book.store), first_at_zero p g d old x (unpriced u) first', turned, found.1), found.2, ap (λ l. t.at ∷ l) (found.3 ∙ its.1))
 
-pub runs_without : {S : Type 0} (makes : S → Call → S → Type 0) (view : S → StoreView) (waits : S → StoreWaits) (prices : S → Prices) (keeps : S → Type 0) → AreRunsWithout makes view waits prices keeps
-runs_without makes view waits prices keeps holds queues old new schedule times result e =
-    let found = run_without makes view waits prices keeps holds queues schedule at_first all_free at_first.clocks old new result (paced_at_first queues old.book.cores) e.0 in
-    (found.0, (found.1, found.3 ∙ e.1), found.2)
-
-pub runs_at_zero : {S : Type 0} (makes : S → Call → S → Type 0) (view : S → StoreView) (waits : S → StoreWaits) (prices : S → Prices) (keeps : S → Type 0) → AreRunsAtZero makes view waits prices keeps
-runs_at_zero makes view waits prices keeps holds queues old new schedule times r e =
-    let found = run_at_zero makes view waits prices keeps holds queues schedule at_first all_free at_first.clocks old new r (paced_at_first queues old.book.cores) e.0 in
-    (found.0, (found.1, found.3 ∙ e.1), found.2)
+pub zero_changes_nothing : {S : Type 0} (makes : S → Call → S → Type 0) (view : S → StoreView) (waits : S → StoreWaits) (prices : S → Prices) (keeps : S → Type 0)
+    → ChangeNothing (bus_costs 0) makes view waits prices keeps
+zero_changes_nothing makes view waits prices keeps = record {
+  without = λ holds queues old new schedule times result e.
+      let found = run_without makes view waits prices keeps holds queues schedule at_first all_free at_first.clocks old new result (paced_at_first queues holds old.book.cores) e.0 in
+      (found.0, (found.1, found.3 ∙ e.1), found.2);
+  at_costs = λ all holds queues old new schedule times other e.
+      let found = run_at_zero makes view waits prices keeps holds queues all schedule at_first all_free at_first.clocks old new other (paced_at_first queues holds old.book.cores) e.0 in
+      (found.0, (found.1, found.3 ∙ e.1), found.2);
+}

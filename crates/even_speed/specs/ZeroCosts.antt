@@ -1,13 +1,13 @@
--- That costs which are all 0 change nothing: a run at these is the run without costs, turn for turn.
+-- What it means that costs change nothing, as those do that are all 0: a run at these is the run without costs, turn for turn.
 -- Source: this project.
-use Rattle.std.specs.Prelude.{◌≡◌, ℕ, ◌+◌, ◌≤◌, Bool, true, false, List, [], ◌∷◌, Option, Some, None, Result, Ok, Err}
+use Rattle.std.specs.Prelude.{◌≡◌, ◌⊎◌, ℕ, ◌+◌, ◌≤◌, Bool, true, false, List, [], ◌∷◌, Option, Some, None, Result, Ok, Err}
 use Rattle.violations.specs.View.{StoreView, Waits}
 use Rattle.violations.specs.Calls.{Call}
 use Rattle.homefree.specs.declared.answer.Answer.{Answer}
 use Rattle.homefree.specs.declared.answer.Answer.TheVariants.{Go, Again, Left, Over, Stopped}
 use Rattle.homefree.specs.declared.fault.TurnFault.{TurnFault}
 use Rattle.homefree.specs.Driven.{Driver}
-use Rattle.turn_costs.specs.Costs.{bus_costs}
+use Rattle.turn_costs.specs.declared.costs.Costs.{Costs}
 use Rattle.turn_costs.specs.Prices.{Prices}
 use Rattle.even_speed.specs.declared.account.Account.{Account}
 use Rattle.even_speed.specs.declared.clocks.Turn.{Turn}
@@ -16,7 +16,7 @@ use Rattle.even_speed.specs.Account.{useful_in}
 use Rattle.even_speed.specs.Even.{EndsOrGoes, Evenly, Pace, Pacing, at_first, go_answer, pace_after, pacing}
 use Rattle.even_speed.specs.Held.{Holding}
 
--- ---- what two runs come to, the first at such costs, the second without costs
+-- ---- what two runs come to, the first at these costs, the second without costs
 
 -- an account without its steps in a queue, held, lost and dropped
 abbrev pub but_for_late : Account → Account
@@ -33,19 +33,24 @@ pub record AreOneAccount (queues : Bool) (a b : Account) : Type 0 where
   -- all else is the same
   pub rest : but_for_late a ≡ but_for_late b
 
--- where the first tells no queue, all is the same
-pub record AreOneRun (queues : Bool) (r s : Ran) : Type 0 where
+-- no load waits
+pub record WaitsNone (holds : Holding) : Type 0 where
+  pub places : (pc : ℕ) → holds.places pc ≡ false
+  pub stores : (epoch piece : ℕ) → holds.stores epoch piece ≡ false
+
+-- where the first tells no queue, or no load waits, all is the same
+pub record AreOneRun (queues : Bool) (holds : Holding) (r s : Ran) : Type 0 where
   pub end : r.end ≡ s.end
   pub steps : r.steps ≡ s.steps
   pub account : AreOneAccount queues r.account s.account
-  pub same : queues ≡ false → r ≡ s
+  pub same : (queues ≡ false) ⊎ WaitsNone holds → r ≡ s
 
-abbrev pub ComeToOne : Bool → Result (Option Ran) TurnFault → Result (Option Ran) TurnFault → Type 0
-ComeToOne queues (Ok (Some r)) (Ok (Some s)) = AreOneRun queues r s
-ComeToOne queues (Ok (Some r)) (Ok None) = ⊥
-ComeToOne queues (Ok (Some r)) (Err fault) = ⊥
-ComeToOne queues (Ok None) other = other ≡ Ok None
-ComeToOne queues (Err fault) other = other ≡ Err fault
+abbrev pub ComeToOne : Bool → Holding → Result (Option Ran) TurnFault → Result (Option Ran) TurnFault → Type 0
+ComeToOne queues holds (Ok (Some r)) (Ok (Some s)) = AreOneRun queues holds r s
+ComeToOne queues holds (Ok (Some r)) (Ok None) = ⊥
+ComeToOne queues holds (Ok (Some r)) (Err fault) = ⊥
+ComeToOne queues holds (Ok None) other = other ≡ Ok None
+ComeToOne queues holds (Err fault) other = other ≡ Err fault
 
 -- ---- the times of turns
 
@@ -74,19 +79,15 @@ EvenlyAt makes view waits keeps paced old schedule times result new =
 
 -- ---- the law
 
--- a run at costs that are all 0 is one without costs: the same turns, at the same times, lead to the same book and come to the same
-abbrev pub AreRunsWithout : {S : Type 0} → (S → Call → S → Type 0) → (S → StoreView) → (S → Waits) → (S → Prices) → (S → Type 0) → Type 0
-AreRunsWithout {S} makes view waits prices keeps =
-    (holds : Holding) (queues : Bool) (old new : Driver S) (schedule times : List ℕ) (result : Result (Option Ran) TurnFault)
-    → EvenlyAt makes view waits keeps (pacing prices holds queues (Some (bus_costs 0))) old schedule times result new
-    → (without : Result (Option Ran) TurnFault) × EvenlyAt makes view waits keeps (pacing prices holds queues None) old schedule times without new
-    × ComeToOne queues result without
-
--- and one without costs is one at these, where nothing is asked of the stores on which prices stand
-abbrev pub AreRunsAtZero : {S : Type 0} → (S → Call → S → Type 0) → (S → StoreView) → (S → Waits) → (S → Prices) → (S → Type 0) → Type 0
-AreRunsAtZero {S} makes view waits prices keeps =
-    (holds : Holding) (queues : Bool) (old new : Driver S) (schedule times : List ℕ) (without : Result (Option Ran) TurnFault)
-    → EvenlyAt makes view waits keeps (pacing prices holds queues None) old schedule times without new
-    → (result : Result (Option Ran) TurnFault)
-    × EvenlyAt makes view waits (λ store. Unit {0}) (pacing prices holds queues (Some (bus_costs 0))) old schedule times result new
-    × ComeToOne queues result without
+-- that these costs change nothing. Of each store on which prices stand this is asked
+pub record ChangeNothing {S : Type 0} (costs : Costs) (makes : S → Call → S → Type 0) (view : S → StoreView) (waits : S → Waits) (prices : S → Prices) (asked : S → Type 0) : Type 0 where
+  -- a run at these costs is one without costs: the same turns, at the same times, lead to the same book and come to the same
+  pub without : (holds : Holding) (queues : Bool) (old new : Driver S) (schedule times : List ℕ) (result : Result (Option Ran) TurnFault)
+      → EvenlyAt makes view waits asked (pacing prices holds queues (Some costs)) old schedule times result new
+      → (other : Result (Option Ran) TurnFault) × EvenlyAt makes view waits asked (pacing prices holds queues None) old schedule times other new
+      × ComeToOne queues holds result other
+  -- and one without costs is one at these, where every store has what is asked
+  pub at_costs : ((store : S) → asked store) → (holds : Holding) (queues : Bool) (old new : Driver S) (schedule times : List ℕ) (other : Result (Option Ran) TurnFault)
+      → EvenlyAt makes view waits asked (pacing prices holds queues None) old schedule times other new
+      → (result : Result (Option Ran) TurnFault) × EvenlyAt makes view waits asked (pacing prices holds queues (Some costs)) old schedule times result new
+      × ComeToOne queues holds result other

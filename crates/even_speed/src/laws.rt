@@ -1,6 +1,7 @@
 //! The laws of runs at even speed: each function does nothing of its own, and its contract is the law.
 ghost use Rattle.even_speed.specs.Fixed.{RunIsFixed};
-ghost use Rattle.even_speed.specs.ZeroCosts.{AreRunsAtZero, AreRunsWithout};
+ghost use Rattle.even_speed.specs.ZeroCosts.{ChangeNothing};
+ghost use Rattle.turn_costs.specs.Costs.{bus_costs};
 
 use homefree::turn_is_fixed;
 use turn_costs::PricedStore;
@@ -18,6 +19,6 @@ pub fn run_is_fixed<S: PricedStore>()
 /// Costs that are all 0 change nothing: from the start of a run the same turns, at the same times, lead to the same book and come to
 /// the same, with these costs or without any. Where loads wait, what is told as queue at these costs is told as held without.
 pub fn zero_costs_change_nothing<S: PricedStore>()
-    ensures without { AreRunsWithout S.makes S.view S.waits S.prices S.keeps }
-    ensures at_zero { AreRunsAtZero S.makes S.view S.waits S.prices S.keeps }
+    ensures asked { ChangeNothing (bus_costs 0) S.makes S.view S.waits S.prices S.keeps }
+    ensures unasked { ChangeNothing (bus_costs 0) S.makes S.view S.waits S.prices (λ store. Unit {0}) }
 {}
