@@ -40,7 +40,7 @@ use Rattle.even_speed.proofs.ZeroClocks.{AreAlike, account_alike, answered_alike
 
 -- ---- the turn without costs
 
-abbrev pub unpriced : Turn → Turn
+abbrev unpriced : Turn → Turn
 unpriced t = record t { price = no_price }
 
 -- ---- who is held runs an attempt
@@ -76,7 +76,7 @@ woken_runs Gone at c = refl
 -- ---- two runs with the same turns
 
 -- what is free, and the clocks, of the run at no cost and of the one without costs, with the same in hand
-pub record ArePaced (queues : Bool) (holds : Holding) (cores : ℕ) (hands : ℕ → Option HartState) (f g : Free) (c d : ℕ → Clock) : Type 0 where
+record ArePaced (queues : Bool) (holds : Holding) (cores : ℕ) (hands : ℕ → Option HartState) (f g : Free) (c d : ℕ → Clock) : Type 0 where
   pub began : g.began ≡ f.began
   pub calm : IsCalm f
   pub order : g.order ≤ g.began
@@ -128,22 +128,20 @@ module _ (queues : Bool) (holds : Holding) (cores : ℕ) (hands : ℕ → Option
   was_due : due_of (d t.core).next ≡ Some t.due
   was_due = free_due (held t.core) (due_of (d t.core).next) t.due first.due
 
-  -- who takes the turn was due in time, unless it runs an attempt
-  in_time : (c t.core).runs ≡ false → t.at - t.due ≡ 0
-  in_time idle = elim (x.soon t.core t.due first.core was_due) [
+  -- who takes the turn was due in time, unless it runs an attempt and some load waits
+  in_time : (((d t.core).runs ≡ true) × (WaitsNone holds → ⊥) → ⊥) → t.at - t.due ≡ 0
+  in_time none_late = elim (x.soon t.core t.due first.core was_due) [
     | inl less ↦ let is = later_of g.began t.due less in omega (arith, at_is, is)
-    | inr y ↦ absurd (true≢false (sym y.0 ∙ (runs_alike queues (c t.core) (d t.core) (x.each t.core) ∙ idle)))
+    | inr y ↦ absurd (none_late y)
   ]
 
-  -- and where no load waits
-  prompt : WaitsNone holds → t.at - t.due ≡ 0
-  prompt none = elim (x.soon t.core t.due first.core was_due) [
-    | inl less ↦ let is = later_of g.began t.due less in omega (arith, at_is, is)
-    | inr y ↦ absurd (y.1 none)
-  ]
+  idle_in_time : (k : ℕ) → (k == t.core) ≡ true → (c k).runs ≡ false → t.at - t.due ≡ 0
+  idle_in_time k is idle =
+      let here : k ≡ t.core = eqb-true k t.core is in
+      in_time (λ y. true≢false (sym y.0 ∙ (sym (ap (λ j. (d j).runs) here) ∙ (runs_alike queues (c k) (d k) (x.each k) ∙ idle))))
 
   late_one : (none : WaitsNone holds) (k : ℕ) (here : Bool) → cond here (late queues t.due t.at (c k)) (c k) ≡ cond here (late false t.due t.at (c k)) (c k)
-  late_one none k true = late_same queues t.due t.at (c k) (prompt none)
+  late_one none k true = late_same queues t.due t.at (c k) (in_time (λ y. y.1 none))
   late_one none k false = refl
 
   lates_same : (queues ≡ false) ⊎ WaitsNone holds → late_clocks queues c t ≡ late_clocks false d t
@@ -162,8 +160,7 @@ module _ (queues : Bool) (holds : Holding) (cores : ℕ) (hands : ℕ → Option
   ]
 
   late_by : (k : ℕ) (here : Bool) → (k == t.core) ≡ here → AreAlike queues (cond here (late queues t.due t.at (c k)) (c k)) (cond here (late false t.due t.at (d k)) (d k))
-  late_by k true is =
-      late_alike queues t.due t.at (c k) (d k) (λ idle. in_time (subst (λ j. (c j).runs ≡ false) (eqb-true k t.core is) idle)) (x.each k)
+  late_by k true is = late_alike queues t.due t.at (c k) (d k) (idle_in_time k is) (x.each k)
   late_by k false is = x.each k
 
   lates : (k : ℕ) → AreAlike queues (late_clocks queues c t k) (late_clocks false d t k)
@@ -189,10 +186,10 @@ module _ (queues : Bool) (holds : Holding) (cores : ℕ) (hands : ℕ → Option
     abbrev executed : ℕ
     executed = executed_by old.book.image answer
 
-    abbrev pub costing : ℕ → Clock
+    abbrev costing : ℕ → Clock
     costing = clocks_after old mid (late_clocks queues c t) t answer
 
-    abbrev pub without : ℕ → Clock
+    abbrev without : ℕ → Clock
     without = clocks_after old mid (late_clocks false d (unpriced t)) (unpriced t) answer
 
     -- the clocks of the second before it wakes others
@@ -289,7 +286,7 @@ module _ (queues : Bool) (holds : Holding) (cores : ℕ) (hands : ℕ → Option
     clocks_same : (queues ≡ false) ⊎ WaitsNone holds → costing ≡ without
     clocks_same is = λ i. clocks_after old mid (lates_same is i) (record t { price = record no_price { spent = none.spent i } }) answer
 
-    pub paced_after : ArePaced queues holds cores (with_held hands t.core (held_after answer (hands t.core))) (free_after f t.at t.price answer) (free_after g t.at no_price answer) costing without
+    paced_after : ArePaced queues holds cores (with_held hands t.core (held_after answer (hands t.core))) (free_after f t.at t.price answer) (free_after g t.at no_price answer) costing without
     paced_after = record {
       began = refl;
       calm = calm_after f t answer none x.calm (subst (λ n. n ≤ t.at) x.began passes);
@@ -305,7 +302,7 @@ module _ (queues : Bool) (holds : Holding) (cores : ℕ) (hands : ℕ → Option
     }
 
     -- where it ends the run
-    pub ends_alike : (n : ℕ) (end : End) → AreOneRun queues holds (ran_at n (over_at f t.at t.price) costing end) (ran_at n (over_at g t.at no_price) without end)
+    ends_alike : (n : ℕ) (end : End) → AreOneRun queues holds (ran_at n (over_at f t.at t.price) costing end) (ran_at n (over_at g t.at no_price) without end)
     ends_alike n end = record {
       end = refl;
       steps = steps;
@@ -339,6 +336,7 @@ same_cores {S} makes view waits old mid core hand answer took = by_turned answer
     by_turned y (turn.acts a) = a.grows.cores
 
 module _ {S : Type 0} (makes : S → Call → S → Type 0) (view : S → StoreView) (waits : S → StoreWaits) (prices : S → Prices) (keeps : S → Type 0) (holds : Holding) (queues : Bool) where
+  -- the two runs are paced so
   abbrev zero : Pacing S
   zero = pacing prices holds queues (Some (bus_costs 0))
 
@@ -350,18 +348,18 @@ module _ {S : Type 0} (makes : S → Call → S → Type 0) (view : S → StoreV
   its_pace p g d = record { held = p.held; clocks = d; free = g }
 
   module _ (p : Pace) (g : Free) (d : ℕ → Clock) (old : Driver S) (x : ArePaced queues holds old.book.cores p.held p.free g p.clocks d) where
-    abbrev dues_are : (k : ℕ) → dues (held_in holds old.book p.held) d k ≡ dues (held_in holds old.book p.held) p.clocks k
+    dues_are : (k : ℕ) → dues (held_in holds old.book p.held) d k ≡ dues (held_in holds old.book p.held) p.clocks k
     dues_are k = ap (λ n. cond (held_in holds old.book p.held k) None (due_of n)) (next_alike queues (p.clocks k) (d k) (x.each k))
 
     begins_are : (k due : ℕ) → begins g no_price due ≡ begins p.free (prices_in zero.pricing waits old.book p.held k) due
     begins_are k due = ap (λ n. later n due) x.began ∙ sym (begins_calm p.free (prices_in zero.pricing waits old.book p.held k) due x.calm)
 
-    pub first_without : (t : Turn) → IsFirst p.free (prices_in zero.pricing waits old.book p.held) (dues (held_in holds old.book p.held) p.clocks) old.book.cores t
+    first_without : (t : Turn) → IsFirst p.free (prices_in zero.pricing waits old.book p.held) (dues (held_in holds old.book p.held) p.clocks) old.book.cores t
         → IsFirst g (λ k. no_price) (dues (held_in holds old.book p.held) d) old.book.cores (unpriced t)
     first_without t first =
         first_again p.free g (prices_in zero.pricing waits old.book p.held) (λ k. no_price) (dues (held_in holds old.book p.held) p.clocks) (dues (held_in holds old.book p.held) d) old.book.cores t begins_are dues_are first
 
-    pub first_at_zero : (t : Turn) → IsFirst g (λ k. no_price) (dues (held_in holds old.book p.held) d) old.book.cores t
+    first_at_zero : (t : Turn) → IsFirst g (λ k. no_price) (dues (held_in holds old.book p.held) d) old.book.cores t
         → IsFirst p.free (prices_in zero.pricing waits old.book p.held) (dues (held_in holds old.book p.held) p.clocks) old.book.cores (record t { price = prices_in zero.pricing waits old.book p.held t.core })
     first_at_zero t first =
         first_again g p.free (λ k. no_price) (prices_in zero.pricing waits old.book p.held) (dues (held_in holds old.book p.held) d) (dues (held_in holds old.book p.held) p.clocks) old.book.cores t
@@ -414,47 +412,50 @@ module _ {S : Type 0} (makes : S → Call → S → Type 0) (view : S → StoreV
     no_hold : WaitsNone holds → (k : ℕ) → held_in holds old.book p.held k ≡ false
     no_hold waits_none k = no_cores_held holds waits_none.places waits_none.stores old.book.image (replay old.book.image old.book.cores old.book.history) p.held k
 
-    pub paced_next : (a : Answer) → ArePaced queues holds mid.book.cores (next a).held (next a).free (its_next a).free (next a).clocks (its_next a).clocks
+    paced_next : (a : Answer) → ArePaced queues holds mid.book.cores (next a).held (next a).free (its_next a).free (next a).clocks (its_next a).clocks
     paced_next a = subst (λ n. ArePaced queues holds n (next a).held (next a).free (its_next a).free (next a).clocks (its_next a).clocks) (sym cores)
         (paced_after queues holds old.book.cores p.held p.free g p.clocks d x t costs (held_in holds old.book p.held) has_hand no_hold first old mid a)
 
-    one_end : (end : End) → AreOneRun queues holds (ran_at old.book.cores (over_at p.free t.at t.price) (clocks_after old mid (late_clocks queues p.clocks t) t (Over end)) end)
-        (ran_at old.book.cores (over_at g t.at no_price) (clocks_after old mid (late_clocks false d (unpriced t)) (unpriced t) (Over end)) end)
+    abbrev ran : End → Ran
+    ran end = ran_at old.book.cores (over_at p.free t.at t.price) (clocks_after old mid (late_clocks queues p.clocks t) t (Over end)) end
+
+    abbrev its_ran : End → Ran
+    its_ran end = ran_at old.book.cores (over_at g t.at no_price) (clocks_after old mid (late_clocks false d (unpriced t)) (unpriced t) (Over end)) end
+
+    one_end : (end : End) → AreOneRun queues holds (ran end) (its_ran end)
     one_end end = ends_alike queues holds old.book.cores p.held p.free g p.clocks d x t costs (held_in holds old.book p.held) has_hand no_hold first old mid (Over end) old.book.cores end
 
-    pub forth : (answer : Result Answer TurnFault) (result : Result (Option Ran) TurnFault)
+    forth : (answer : Result Answer TurnFault) (result : Result (Option Ran) TurnFault)
         → ((a : Answer) (e : AtZero (next a) mid rest result new)
         → (r : Result (Option Ran) TurnFault) × (y : Without (its_next a) mid rest r new) × ComeToOne queues holds result r
         × (times_without (its_next a) mid rest r new y ≡ times_at_zero (next a) mid rest result new e))
         → (e : BelowAtZero p old new mid rest t answer result)
-        → (r : Result (Option Ran) TurnFault)
-        × (y : BelowWithout p g d old new mid rest (unpriced t) answer r) × ComeToOne queues holds result r
+        → (r : Result (Option Ran) TurnFault) × (y : BelowWithout p g d old new mid rest (unpriced t) answer r) × ComeToOne queues holds result r
         × (below_without p g d old new mid rest (unpriced t) answer r y ≡ below_at_zero p old new mid rest t answer result e)
     forth (Ok (Over end)) result more e =
-        (_, (e.0, e.1, refl), subst (λ y. ComeToOne queues holds y (Ok (Some (ran_at old.book.cores (over_at g t.at no_price) (clocks_after old mid (late_clocks false d (unpriced t)) (unpriced t) (Over end)) end)))) (sym e.2) (one_end end), refl)
+        (Ok (Some (its_ran end)), (e.0, e.1, refl), subst (λ y. ComeToOne queues holds y (Ok (Some (its_ran end)))) (sym e.2) (one_end end), refl)
     forth (Ok (Stopped cause)) result more e = (Ok None, (e.0, e.1, refl), subst (λ y. ComeToOne queues holds y (Ok None)) (sym e.2) refl, refl)
     forth (Err fault) result more e = (Err fault, (e.0, e.1, refl), subst (λ y. ComeToOne queues holds y (Err fault)) (sym e.2) refl, refl)
     forth (Ok (Go hart)) result more e = more (Go hart) e
     forth (Ok (Again cause)) result more e = more (Again cause) e
     forth (Ok Left) result more e = more Left e
 
-    pub back : (answer : Result Answer TurnFault) (r : Result (Option Ran) TurnFault)
+    back : (answer : Result Answer TurnFault) (r : Result (Option Ran) TurnFault)
         → ((a : Answer) (y : Without (its_next a) mid rest r new)
         → (result : Result (Option Ran) TurnFault) × (e : AtZero (next a) mid rest result new) × ComeToOne queues holds result r
         × (times_at_zero (next a) mid rest result new e ≡ times_without (its_next a) mid rest r new y))
         → (y : BelowWithout p g d old new mid rest (unpriced t) answer r)
-        → (result : Result (Option Ran) TurnFault)
-        × (e : BelowAtZero p old new mid rest t answer result) × ComeToOne queues holds result r
+        → (result : Result (Option Ran) TurnFault) × (e : BelowAtZero p old new mid rest t answer result) × ComeToOne queues holds result r
         × (below_at_zero p old new mid rest t answer result e ≡ below_without p g d old new mid rest (unpriced t) answer r y)
     back (Ok (Over end)) r more e =
-        (_, (e.0, e.1, refl), subst (ComeToOne queues holds (Ok (Some (ran_at old.book.cores (over_at p.free t.at t.price) (clocks_after old mid (late_clocks queues p.clocks t) t (Over end)) end)))) (sym e.2) (one_end end), refl)
+        (Ok (Some (ran end)), (e.0, e.1, refl), subst (ComeToOne queues holds (Ok (Some (ran end)))) (sym e.2) (one_end end), refl)
     back (Ok (Stopped cause)) r more e = (Ok None, (e.0, e.1, refl), e.2, refl)
     back (Err fault) r more e = (Err fault, (e.0, e.1, refl), e.2, refl)
     back (Ok (Go hart)) r more e = more (Go hart) e
     back (Ok (Again cause)) r more e = more (Again cause) e
     back (Ok Left) r more e = more Left e
 
-  pub run_without : (schedule : List ℕ) (p : Pace) (g : Free) (d : ℕ → Clock) (old new : Driver S) (result : Result (Option Ran) TurnFault)
+  run_without : (schedule : List ℕ) (p : Pace) (g : Free) (d : ℕ → Clock) (old new : Driver S) (result : Result (Option Ran) TurnFault)
       → ArePaced queues holds old.book.cores p.held p.free g p.clocks d → (e : AtZero p old schedule result new)
       → (r : Result (Option Ran) TurnFault) × (y : Without (its_pace p g d) old schedule r new) × ComeToOne queues holds result r
       × (times_without (its_pace p g d) old schedule r new y ≡ times_at_zero p old schedule result new e)
@@ -467,7 +468,7 @@ module _ {S : Type 0} (makes : S → Call → S → Type 0) (view : S → StoreV
       let found = forth p g d old new mid x t costs first' cores rest answer result (λ a. run_without rest (pace_after old mid queues p t a) _ _ mid new result (paced a)) more in
       (found.0, (unpriced t, mid, answer, is, (kept.0, tt), first', turned, found.1), found.2, ap (λ l. t.at ∷ l) found.3)
 
-  pub run_at_zero : ((store : S) → keeps store) → (schedule : List ℕ) (p : Pace) (g : Free) (d : ℕ → Clock) (old new : Driver S) (r : Result (Option Ran) TurnFault)
+  run_at_zero : ((store : S) → keeps store) → (schedule : List ℕ) (p : Pace) (g : Free) (d : ℕ → Clock) (old new : Driver S) (r : Result (Option Ran) TurnFault)
       → ArePaced queues holds old.book.cores p.held p.free g p.clocks d → (y : Without (its_pace p g d) old schedule r new)
       → (result : Result (Option Ran) TurnFault) × (e : AtZero p old schedule result new) × ComeToOne queues holds result r
       × (times_at_zero p old schedule result new e ≡ times_without (its_pace p g d) old schedule r new y)
