@@ -1,5 +1,5 @@
 -- Definitions to believe: where steps go, what a turn costs and when it begins, what a core's clock does, when a core is held, the run of turns, how
--- many steps the loop takes in order, and that the run is fixed.
+-- many steps the loop takes in order, that the run is fixed, and that costs of 0 change nothing.
 pub mod Account
 pub mod Pricing
 pub mod Clocks
