@@ -27,6 +27,7 @@ sys.path[:0] = [str(TOP / "tests/wrong-bodies"), str(TOP / "tools")]
 sys.dont_write_bytecode = True
 
 from checks import is_another  # noqa: E402
+from edits import Sources, batches_of, read_edit  # noqa: E402
 
 SOURCE = """\
 //! Numbers one after the other.
@@ -165,6 +166,11 @@ fn one_after(n: u32) -> u32
 {
     1 + n
 }
+
+/// A law: one and one is two.
+pub fn ones_make_two()
+    ensures { 1 + 1 ≡ 2 }
+{}
 """
 ANSWERS = """\
 use Rattle.std.proofs.Common.{arith}
@@ -193,6 +199,8 @@ OWN_ANSWERS = [
     "new: pub returns : goal.returns",
     "new: returns c = omega arith",
 ]
+IMPORT = "ghost use Rattle.std.specs.Prelude.{◌≡◌, ◌+◌, ◌<◌};"
+WITH_LESS = "ghost use Rattle.std.specs.Prelude.{◌≡◌, ◌+◌, ◌<◌, ◌≤◌};"
 LONG_NAME = "number_that_comes_two_steps_after_another_number"
 LONG_STEP = "number_that_comes_one_step_after_it"
 # Where a step has another name, `two-steps` names one that isn't there, and `returns` depends on it, "which was
@@ -209,8 +217,6 @@ EDITS: dict[str, tuple[Sequence[Pair], str]] = {
         [("// two steps", "// 2 steps")], "FAILED, NOT REFUSED by a message at next_but_one: proved"),
     "next_breaks_another_function": ([("result ≡ n + 1 }", "n < result }")],
                                      "FAILED, NOT REFUSED by a message at next: proved"),
-    "next_does_not_compile": ([("    n + 1", "    n + true")],
-                              "FAILED, DOES NOT COMPILE: src/lib.rt:11:9: error[mismatched-types]"),
     "next_of_a_text_that_is_not_there": ([("    n + 7", "    n + 1")],
                                          "FAILED, BAD EDIT: a text of it stands in src/lib.rt 0 times"),
     "next_but_one_renames_a_step": (
@@ -253,6 +259,15 @@ EDITS: dict[str, tuple[Sequence[Pair], str]] = {
     "two_after_with_a_line_that_takes_no_place": (["file: src/lib.rs", "new: // two more", ("    n + 2", "    n + 5")],
                                                   "FAILED, BAD EDIT: a line 'new:' stands before any"),
     "four_after_is_five_after": ([("    next(three_after(n))", "    next(three_after(n)) + 1")], "refused: "),
+    "four_after_promises_five": ([("    ensures { result ≡ n + 4 }", "    ensures { result ≡ n + 5 }")], "refused: "),
+    "four_after_promises_less_by_another_import": (
+        [(IMPORT, WITH_LESS), ("    ensures { result ≡ n + 4 }", "    ensures { result ≤ n + 3 }")], "refused: "),
+    "four_after_promises_more_by_another_import": (
+        [(IMPORT, WITH_LESS), ("    ensures { result ≡ n + 4 }", "    ensures { n + 3 ≤ result }")],
+        "FAILED, NOT REFUSED by a message at four_after: proved"),
+    "count_of_promises_less_by_the_same_import": (
+        [(IMPORT, WITH_LESS), ("    ensures large { size ≡ Size.Large → result ≡ 2 }",
+                               "    ensures large { size ≡ Size.Large → result ≤ 1 }")], "refused: "),
     "four_after_over_one_that_is_not_proved_changes_a_comment": (
         [("// by three", "// by 3")], "FAILED, NOT REFUSED by a message at four_after: proved"),
     "four_after_in_a_twin_is_right": (
@@ -266,11 +281,17 @@ EDITS: dict[str, tuple[Sequence[Pair], str]] = {
     "count_of_small_is_three": ([("Size::Small => 1,", "Size::Small => 3,")], "refused: "),
     "count_of_small_in_a_twin_of_one_arm_is_right": (
         [("Size::Small => 1,", "Size::Small => (1),")], "FAILED, NOT REFUSED by a message at count_of: proved"),
+    "ones_make_three_by_law": ([("    ensures { 1 + 1 ≡ 2 }", "    ensures { 1 + 1 ≡ 3 }")], "refused: "),
     "next_is_three_more_and_known_as_a_misfit": ([("    n + 1", "    n + 3")],
                                                  "FAILED, NO MISFIT: misfits.txt has it, refused: "),
     "the_head_of_the_file": ([("//! Numbers one", "//! Numbers, one")], "FAILED, BAD EDIT: it changes no function"),
 }
 
+
+# The edits that change more than bodies and further imports.
+OF_CONTRACTS = {"next_breaks_another_function", "four_after_promises_five", "count_of_promises_less_by_the_same_import",
+                "four_after_promises_less_by_another_import", "four_after_promises_more_by_another_import",
+                "ones_make_three_by_law"}
 
 # What has to be told of the right body of each edit that brings answers.
 RIGHT = {
@@ -314,6 +335,12 @@ pub fn one() -> u32
     1
 }
 """
+# Its edits, of which the second has a twin, and doesn't compile; and what has to be told of each.
+LOW_EDITS: dict[str, tuple[Sequence[Pair], str]] = {
+    "one_is_two": ([("    1", "    2")], "refused: "),
+    "one_of_another_type": ([("    1", "    true")],
+                            "FAILED, DOES NOT COMPILE: src/lib.rt:9:5: error[mismatched-types]"),
+}
 OVER = """\
 //! The number two.
 #![tactic(auto)]
@@ -380,8 +407,9 @@ def repository(top: Path) -> None:
     long_answers = ANSWERS.replace("next_but_one", LONG_NAME).replace("next-one", f"next-{LONG_STEP}")
     write(top / f"crates/steps/proofs/{LONG_NAME}/Answers.antt", long_answers)
     write(top / "tests/wrong-bodies/misfits.txt", "".join(f"steps/{it}\n" for it in KNOWN))
-    for name, (pairs, _) in EDITS.items():
-        write(top / f"tests/wrong-bodies/steps/{name}.edit", edit_text(pairs))
+    for crate, edits in (("steps", EDITS), ("low", LOW_EDITS)):
+        for name, (pairs, _) in edits.items():
+            write(top / f"tests/wrong-bodies/{crate}/{name}.edit", edit_text(pairs))
     for file in [*(TOP / "tests/wrong-bodies").glob("*.py"), TOP / "tests/wrong-bodies/run", TOP / "tools/crates.py"]:
         (top / file.relative_to(TOP)).parent.mkdir(parents=True, exist_ok=True)
         shutil.copy(file, top / file.relative_to(TOP))
@@ -469,6 +497,13 @@ def left(top: Path, path: str, *words: str) -> str:
     return told(top, path, "--left", *words, "over")[1][-1]
 
 
+def of_another_type(top: Path, path: str) -> Iterator[tuple[str, str, str]]:
+    """What is told of two edits of which one doesn't compile, with what has to be told."""
+    said, lines, _ = told(top, path, "low")
+    yield from ((name, said.get(name, "nothing"), wanted) for name, (_, wanted) in LOW_EDITS.items())
+    yield "the last line beside one that doesn't compile", lines[-1], "1 refused, 1 failed"
+
+
 def right_bodies(top: Path, path: str) -> Iterator[tuple[str, str, str]]:
     """What is told of right bodies with the answers of edits, with what has to be told, and which of them are kept."""
     said, lines, status = told(top, path, "--right", "steps")
@@ -494,8 +529,22 @@ def of_a_small_crate(folder: Path) -> Iterator[Check]:
             ("the last line", lines[-1], f"{counts[0]} refused, {counts[1]} failed"),
             ("the third line from the end", lines[-3:][0], f"{counts[2]} misfits"), ("the status", str(status), "1"),
             ("what is kept of these", noted.partition(", ")[2], f"{all_kept} kept"), *right_bodies(top, path),
-            *keeping(top, folder, path)]:
+            *of_another_type(top, path), *keeping(top, folder, path)]:
         yield name, None if got.startswith(wanted) else f"got {got!r}, wanted {wanted!r}"
+
+
+def together(folder: Path) -> Iterator[Check]:
+    """How many of the edits stand in each list of those that are tried together: each has its function's place or a
+    twin, also one that changes a contract, an import or answers."""
+    repository(folder)
+    sources, edits = Sources(str(folder / "crates/steps")), []
+    for name, (pairs, told_of) in EDITS.items():
+        if "BAD EDIT" not in told_of:
+            edits.append(read_edit(name, edit_text(pairs), sources))
+    tried = list(batches_of(edits, sources))
+    yield "the edits in lists", differs([len(it) for it in tried], [len(edits)])
+    yield "edits of contracts, each in a twin", differs(
+        {it.name for batch in tried for it in batch if it.twin and not it.in_bodies}, OF_CONTRACTS)
 
 
 def terms() -> Iterator[Check]:
@@ -510,7 +559,7 @@ def main() -> int:
         left_out("wrong bodies of a small crate", "the command rt of the Rattle kit isn't installed")
         return 0
     with tempfile.TemporaryDirectory() as name:
-        script.run(partial(of_a_small_crate, Path(name)), terms)
+        script.run(partial(of_a_small_crate, Path(name)), partial(together, Path(name, "together")), terms)
     return script.ended()
 
 

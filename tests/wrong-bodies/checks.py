@@ -11,7 +11,7 @@ from dataclasses import dataclass, field
 from typing import NamedTuple
 
 from crates import Crates, Kit
-from edits import Texts
+from edits import Texts, renamed
 from sources import Function
 
 PARTS = ("src", "specs", "proofs")
@@ -118,7 +118,7 @@ def copy_proofs(room: str, twin: str, of: str) -> None:
             text = it.read()
         os.makedirs(here, exist_ok=True)
         with open(f"{here}/{name}", "w", encoding="utf-8") as it:
-            it.write(re.sub(rf"\.{re.escape(of.replace('::', '.'))}(?=[.\s])", f".{twin.replace('::', '.')}", text))
+            it.write(renamed(text, twin, of))
 
 
 def open_proofs(room: str, name: str, functions: Iterable[str]) -> None:

@@ -32,13 +32,16 @@ class Change:
 
 @dataclass(frozen=True)
 class Twin:
-    """A copy of a function with an edit's body and another name: its text, the path of the function below which it
-    stands, and how many lines of the body it leaves out. That of a function of a trait stands below its impl, as a
-    function of the type itself."""
+    """A copy of a function as an edit has it, with another name: its text, the path of the function below which it
+    stands, how many lines of the body it leaves out, the changes of imports that it needs, and the paths and texts of
+    those of its proof files that the edit changes. That of a function of a trait stands below its impl, as a function
+    of the type itself."""
 
     text: str
     of: str
     saved: int = 0
+    imports: tuple[Change, ...] = ()
+    proofs: tuple[tuple[str, str], ...] = ()
 
 
 @dataclass(frozen=True)
@@ -152,35 +155,60 @@ def applied(sources: Sources, edit: Edit, texts: Texts) -> Texts:
     """The texts of the files with an edit, each from `texts` where that has it."""
     if not edit.twin:
         return changed(sources, edit.changes, texts)
-    file = edit.changes[0].file
-    lines = texts.get(file, sources.texts[file]).split("\n")
+    (file,) = sources_of(edit)
+    text = texts.get(file, sources.texts[file])
+    # others may have made the same change of an import
+    for it in edit.twin.imports:
+        text = text if it.new in text else changed(sources, [it], {file: text})[file]
+    lines = text.split("\n")
     below = sources.functions(file, "\n".join(lines))[edit.twin.of].last
     if edit.twin.text.startswith("impl "):
         below = lines.index("}", below) + 1
-    return {**texts, file: "\n".join([*lines[:below], "", edit.twin.text, *lines[below:]])}
+    made = "\n".join([*lines[:below], "", edit.twin.text, *lines[below:]])
+    return {**texts, file: made, **dict(edit.twin.proofs)}
+
+
+def sources_of(edit: Edit) -> set[str]:
+    """The source files that an edit changes."""
+    return {it.file for it in edit.changes if not is_of_proofs(it.file)}
 
 
 def in_twin(edit: Edit, sources: Sources, number: int) -> Edit | None:
-    """The edit with its wrong body in a twin of its function, or None where that can't be: the edit changes more than
-    the body of one function, and that is in a cycle of calls, or one of a trait whose contract stands with the
-    trait."""
-    if not edit.in_bodies or len(edit.functions) != 1 or len({it.file for it in edit.changes}) != 1:
+    """The edit with its wrong function in a twin of that, or None where that can't be: the edit changes more than one
+    function, its proof files and imports, and that is in a cycle of calls, or one of a trait whose contract stands with
+    the trait."""
+    if len(edit.functions) != 1 or len(sources_of(edit)) != 1:
         return None
-    file, (path,) = edit.changes[0].file, edit.functions
-    text, was = changed(sources, edit.changes)[file], sources.texts[file]
+    (file,), (path,) = sources_of(edit), edit.functions
+    imports = tuple(it for it in edit.changes if adds_imports(it))
+    made = changed(sources, edit.changes)
+    text, was = made.pop(file), changed(sources, imports).get(file, sources.texts[file])
     function, right = sources.functions(file, text)[path], sources.functions(file, was)[path]
     head, body = parts_of(text, function)
     if lines_outside(text, function) != lines_outside(was, right) or sources.is_in_cycle(path) or "#[cycle(" in head:
         return None
     twin = replace(function, name=f"{function.name}_twin{number}")
     text = re.sub(rf"\bfn {function.name}\b", f"fn {twin.name}", head, count=1)
-    kept = one_arm(function, head, parts_of(was, right).body, body) or body
+    # answers of the edit's own are for the whole body
+    kept = (None if made else one_arm(function, head, parts_of(was, right).body, body)) or body
     text, saved = "\n".join([text, *kept]), len(body) - len(kept)
     if function.holder and function.holder not in sources.holders:
         if function.type not in sources.holders or not CLAUSE.search(head):
             return None
         twin, text = replace(twin, holder=function.type), f"impl {function.type} {{\n{text}\n}}"
-    return replace(edit, functions=frozenset({sources.path_of(file, twin)}), twin=Twin(text, path, saved))
+    own = sources.path_of(file, twin)
+    proofs = tuple((proof_file(own, it), renamed(made[it], own, path)) for it in made)
+    return replace(edit, functions=frozenset({own}), twin=Twin(text, path, saved, imports, proofs))
+
+
+def proof_file(function: str, file: str) -> str:
+    """The proof file of a function that has the name of another one's."""
+    return "/".join(["proofs", *function.split("::"), os.path.basename(file)])
+
+
+def renamed(text: str, twin: str, of: str) -> str:
+    """The text of a proof file of a function as one of its twin: it names what is made of that by its path."""
+    return re.sub(rf"\.{re.escape(of.replace('::', '.'))}(?=[.\s])", f".{twin.replace('::', '.')}", text)
 
 
 def one_arm(function: Function, head: str, right: Sequence[str], wrong: Sequence[str]) -> list[str] | None:
@@ -225,7 +253,7 @@ def read_edit(name: str, text: str, sources: Sources) -> Edit:
             continue
         line = before[: before.find(it.old)].count("\n") + 1
         found = [of for of in functions_of(before) if of.first <= line <= of.last]
-        in_bodies = in_bodies and (it.old.startswith(IMPORTS) or any(stays_inside(it, line, of) for of in found))
+        in_bodies = in_bodies and (adds_imports(it) or any(stays_inside(it, line, of) for of in found))
     in_sources = [it for it in texts if it in sources.texts]
     functions = {path for it in in_sources for path in changed_functions(sources, it, texts[it])}
     if texts == {file: sources.text_of(file) for file in texts}:
@@ -254,6 +282,12 @@ def lines_by_function(sources: Sources, file: str, text: str) -> dict[str, list[
     return {path: lines[it.first - 1 : it.last] for path, it in sources.functions(file, text).items()}
 
 
+def adds_imports(change: Change) -> bool:
+    """Whether a change adds names to an import, and takes none away: no function can tell that doesn't use them."""
+    old, new = (set(re.findall(r"[^\s{},;]+", it)) for it in (change.old, change.new))
+    return change.old.startswith(IMPORTS) and old <= new
+
+
 def stays_inside(change: Change, line: int, function: Function) -> bool:
     """Whether a change at a line is one of the function's body alone: below its opening brace, or behind it on the same
     line."""
@@ -279,10 +313,11 @@ def once_each(edits: Sequence[Edit]) -> tuple[list[Edit], list[Edit]]:
 
 def batches_of(edits: Sequence[Edit], sources: Sources) -> Iterator[list[Edit]]:
     """The edits in as few lists as one pass finds: in a list each function is changed once, and each text stands once;
-    what can't stand so stands in a twin of its function. What changes more than bodies and imports has a list of its
-    own."""
-    yield from ([it] for it in edits if not it.in_bodies)
-    left = [it for it in edits if it.in_bodies]
+    what can't stand so stands in a twin of its function. So does what changes the function's contract, since nothing
+    calls a twin. What changes more than that has a list of its own."""
+    alone = [it for it in edits if not it.in_bodies and not in_twin(it, sources, 0)]
+    yield from ([it] for it in alone)
+    left = [it for it in edits if it not in alone]
     while left:
         batch: list[Edit] = []
         later: list[Edit] = []
@@ -303,11 +338,20 @@ def batches_of(edits: Sequence[Edit], sources: Sources) -> Iterator[list[Edit]]:
 def beside(edit: Edit, sources: Sources, texts: Texts, used: set[str], number: int) -> tuple[Edit | None, Texts]:
     """The edit in its function's place or in a twin, beside others that changed the functions `used`, with the texts
     that they make together; or None, where it can't stand beside them. A twin that is much shorter than the function
-    comes first."""
+    comes first, and what changes more than bodies stands in a twin alone."""
     twin = in_twin(edit, sources, number)
-    if not used & edit.functions and not (twin and twin.twin and twin.twin.saved >= MUCH):
-        try:
-            return edit, applied(sources, edit, texts)
-        except BadEdit:
-            pass  # a text of it doesn't stand once in what others made of the file
-    return twin, applied(sources, twin, texts) if twin else texts
+    if edit.in_bodies and not used & edit.functions and not (twin and twin.twin and twin.twin.saved >= MUCH):
+        placed = made_beside(edit, sources, texts)
+        if placed:
+            return edit, placed
+    placed = made_beside(twin, sources, texts) if twin else None
+    return (twin, placed) if placed else (None, texts)
+
+
+def made_beside(edit: Edit, sources: Sources, texts: Texts) -> Texts | None:
+    """The texts of the files with an edit, each from `texts` where that has it; or None, where a text of it doesn't
+    stand once in what others made of a file."""
+    try:
+        return applied(sources, edit, texts)
+    except BadEdit:
+        return None

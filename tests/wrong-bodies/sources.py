@@ -56,7 +56,8 @@ def functions_of(text: str) -> list[Function]:
                 first -= 1
             cycle = next((it[1] for it in map(CYCLE.search, lines[first:at]) if it), function[2])
             last = last_line(lines, at, function[1])
-            body = next((it for it in range(at, last) if lines[it].rstrip() == function[1] + "{"), at)
+            braces = (function[1] + "{", function[1] + "{}")
+            body = next((it for it in range(at, last + 1) if lines[it].rstrip() in braces), at)
             held = holders[-1] if holders else NO_HOLDER
             found.append(Function(held.name, held.type, function[2], cycle, first + 1, body + 1, last + 1))
     return found
