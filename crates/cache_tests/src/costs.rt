@@ -1,9 +1,11 @@
 //! What accesses and publishes cost, and the steps of a loop in order.
+ghost use Rattle.std.specs.Prelude.{◌<◌, ◌≤◌};
 
 use crate::play::play;
-use crate::words::is_row;
-use rv32_image::image_of;
+use crate::words::{cell, is_row, number};
+use rv32_image::{Image, image_of};
 use spec_bus::CachedBus;
+use std::alloc::Global;
 use std::test::Fail;
 use turn_costs::{Actions, Cost, Costs, MOST_COST, PricedStore, steps_in_order};
 use violations::{EpochStore, PlainStore, Waiting};
@@ -60,29 +62,45 @@ fn what_accesses_cost(rt: HostRuntime) -> Result<(), Fail> {
     Ok(())
 }
 
+/// Whether an access of core 0 to the word at 64 would wait: a load, and a store.
+fn waits<S: PricedStore>(store: &S) -> (bool, bool)
+    requires cores { 0 < (S.view store.now).shape.cores }
+    requires size { 68 ≤ (S.view store.now).shape.size }
+{
+    (store.load_waits(0, 64, 4), store.store_waits(0, 64, 4))
+}
+
+/// Whether nothing costs, and no access waits.
+fn is_free<S: PricedStore>(store: &S) -> bool
+    requires cores { 1 < (S.view store.now).shape.cores }
+    requires size { 68 ≤ (S.view store.now).shape.size }
+{
+    let load = store.load_actions(0, false, 64);
+    let stored = store.store_actions(1, true, 64);
+    let lines = store.publish_lines(0);
+    !load.needs_bus() && stored.messages() == 0 && lines == 0 && waits(store) == (false, false)
+}
+
+/// Whether straight accesses of core 0 are misses, its publish asks for no line, and others wait.
+fn costs_as_in_it<S: PricedStore>(store: &S) -> bool
+    requires cores { 1 < (S.view store.now).shape.cores }
+    requires size { 68 ≤ (S.view store.now).shape.size }
+{
+    let load = store.load_actions(0, true, 64);
+    let stored = store.store_actions(0, true, 64);
+    let lines = store.publish_lines(0);
+    load.misses == 1 && stored.misses == 1 && lines == 0 && waits(store) == (true, true)
+}
+
 /// Over a plain store nothing costs, and a store that waits costs what the one in it does.
 #[test]
 fn what_other_stores_cost(rt: HostRuntime) -> Result<(), Fail> {
     let image = image_of(rt.alloc(), IMAGE.as_bytes())?;
     assert!(rt; image.version().limits().most_cores >= 2 && image.size() >= 68);
     let plain = PlainStore::fresh(rt.alloc(), &image, 2)?;
-    assert!(rt;
-        !plain.load_actions(0, false, 64).needs_bus()
-            && plain.store_actions(1, true, 64).messages() == 0
-    );
-    assert!(rt;
-        plain.publish_lines(0) == 0 && !plain.load_waits(0, 64, 4) && !plain.store_waits(0, 64, 4)
-    );
+    assert!(rt; is_free(&plain));
     let waiting: Waiting<CachedBus> = Waiting::fresh(rt.alloc(), &image, 2)?;
-    assert!(rt;
-        waiting.load_actions(0, true, 64).misses == 1
-            && waiting.store_actions(0, true, 64).misses == 1
-    );
-    assert!(rt;
-        waiting.publish_lines(0) == 0
-            && waiting.load_waits(0, 64, 4)
-            && waiting.store_waits(0, 64, 4)
-    );
+    assert!(rt; costs_as_in_it(&waiting));
     Ok(())
 }
 
@@ -105,52 +123,54 @@ fn what_actions_cost(rt: HostRuntime) -> Result<(), Fail> {
     Ok(())
 }
 
-/// Loops, and how many steps they take in order where nothing costs, where each miss and upgrade costs 10, and where it costs 40: values of
-/// an independent program.
-const LOOPS: [(&str, u64, u64, u64); 4] = [
-    // Each epoch adds its number to one word: four instructions, and one miss in all.
-    (
-        "size 256\nepochs 4\nlimit 100\ncode 83220004b382a2002320500467800000\n",
-        16,
-        26,
-        56,
-    ),
-    // It ends with a fault.
-    (
-        "size 256\nepochs 6\nlimit 100\ncode 832200046364550073001000131325002328030467800000\nat 00000040 03000000\n",
-        17,
-        37,
-        97,
-    ),
-    // It ends with an exit.
-    (
-        "size 256\nepochs 8\nlimit 100\ncode 9312250003a30208631883002320a00413051000678000001305000067800000\nexit\nreg 8 0000002a\nat 00000080 0700000009000000150000000300000010000000\nat 00000094 2a000000110000002a000000\n",
-        31,
-        61,
-        151,
-    ),
-    (
-        "size 256\nepochs 14\nlimit 100\ncode 130715009307000493162500131727003387e700b386d7000327070083a606001305250013152500b387a7003307d70023a0e70067800000\nat 00000040 00000000010000000000000000000000\n",
-        196,
-        236,
-        356,
-    ),
-];
+/// Loops, whose lines stand between semicolons, and how many steps they take in order where nothing costs, where each miss and upgrade
+/// costs 10, and where it costs 40: values of an independent program.
+const LOOPS: &str = "
+# Each epoch adds its number to one word: four instructions, and one miss in all.
+size 256; epochs 4; limit 100; code 83220004b382a2002320500467800000 | 16 26 56
+# It ends with a fault.
+size 256; epochs 6; limit 100; code 832200046364550073001000131325002328030467800000; at 00000040 03000000 | 17 37 97
+# It ends with an exit.
+size 256; epochs 8; limit 100; code 9312250003a30208631883002320a00413051000678000001305000067800000; exit; reg 8 0000002a; at 00000080 0700000009000000150000000300000010000000; at 00000094 2a000000110000002a000000 | 31 61 151
+size 256; epochs 14; limit 100; code 130715009307000493162500131727003387e700b386d7000327070083a606001305250013152500b387a7003307d70023a0e70067800000; at 00000040 00000000010000000000000000000000 | 196 236 356
+";
+
+/// The image whose lines stand between semicolons.
+fn image_in(alloc: Global, lines: &str) -> Result<Image, Fail> {
+    let mut text = String::new(alloc);
+    for line in lines.split(';') {
+        text.push_str(line.trim())?;
+        text.push_str("\n")?;
+    }
+    Ok(image_of(alloc, text.as_bytes())?)
+}
+
+/// Whether a loop takes so many steps in order over caches, where each miss and upgrade costs so much, and so many over a plain store.
+fn takes(alloc: Global, image: &Image, each: u32, caches: u32, plain: u32) -> Result<bool, Fail> {
+    let costs = Costs::bus(Cost::new(each).ok_or("no cost")?);
+    Ok(
+        steps_in_order::<CachedBus>(alloc, image, &costs)? == u64::from(caches)
+            && steps_in_order::<PlainStore>(alloc, image, &costs)? == u64::from(plain),
+    )
+}
+
+/// Whether the loop of a row takes the steps of the row.
+fn takes_as_said(alloc: Global, row: &str) -> Result<bool, Fail> {
+    let image = image_in(alloc, cell(row, 0))?;
+    let steps = cell(row, 1);
+    let none = number(steps, 0);
+    Ok(
+        takes(alloc, &image, 0, none, none)?
+            && takes(alloc, &image, 10, number(steps, 1), none)?
+            && takes(alloc, &image, 40, number(steps, 2), none)?,
+    )
+}
 
 #[test]
 fn steps_of_loops_in_order(rt: HostRuntime) -> Result<(), Fail> {
-    for (text, none, ten, forty) in LOOPS {
-        let image = image_of(rt.alloc(), text.as_bytes())?;
-        for (each, want) in [(0, none), (10, ten), (40, forty)] {
-            let costs = Costs::bus(Cost::new(each).ok_or("no cost")?);
-            assert!(rt;
-                steps_in_order::<CachedBus>(rt.alloc(), &image, &costs)? == want,
-                "{text}"
-            );
-            assert!(rt;
-                steps_in_order::<PlainStore>(rt.alloc(), &image, &costs)? == none,
-                "{text}"
-            );
+    for row in LOOPS.split('\n') {
+        if is_row(row) {
+            assert!(rt; takes_as_said(rt.alloc(), row)?, "{row}");
         }
     }
     Ok(())

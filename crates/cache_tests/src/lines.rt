@@ -35,6 +35,14 @@ const LOADED: Marks = Marks {
     bytes: 0,
 };
 
+/// Whether lines have so many bytes.
+fn is_length(length: usize) -> bool
+    ensures known { result ≡ true → IsTrue (is_line_length length) }
+    ensures small { result ≡ true → length ≤ 64 }
+{
+    length == 16 || length == 32 || length == 64
+}
+
 /// Cells that count up from `from` to the line length, with 0 past it.
 fn counted(from: u8, length: usize) -> [u8; LONGEST_LINE]
     requires { IsTrue (is_line_length length) }
@@ -88,7 +96,7 @@ fn pair(
     first: (LineState, Marks),
     second: (LineState, Marks),
 ) -> Cache {
-    assert!(rt; length == 16 || length == 32 || length == 64);
+    assert!(rt; is_length(length));
     let mut cache = Cache::new(length);
     put(rt, &mut cache, 0, (4 * length as u32, first.0, first.1));
     put(rt, &mut cache, 1, (8 * length as u32, second.0, second.1));
@@ -179,7 +187,7 @@ pub fn way(word: &str) -> Option<usize> {
 /// Whether a row of `VICTIMS` holds.
 fn is_victim(rt: &impl Abort, row: &str, length: usize) -> Option<bool> {
     let (first, second) = (state(word(row, 0))?, state(word(row, 1))?);
-    assert!(rt; length == 16 || length == 32 || length == 64);
+    assert!(rt; is_length(length));
     let unit = length as u32;
     let cache = pair(rt, length, (first, LOADED), (second, LOADED));
     let want = way(word(row, 2));
@@ -207,7 +215,7 @@ fn is_empty_at(cache: &Cache, addr: u32) -> bool {
 
 /// Whether a new cache has lines of this length, and none.
 fn is_new(length: usize) -> bool {
-    if length != 16 && length != 32 && length != 64 {
+    if !is_length(length) {
         return false;
     }
     let cache = Cache::new(length);
@@ -264,7 +272,7 @@ fn lines_are_found_by_their_addresses(rt: HostRuntime) {
 
 /// Whether the lines at two addresses, put into way 0 one after the other, are of one set: only the second is there then.
 fn share_a_set(rt: &impl Abort, length: usize, first: u32, second: u32) -> bool {
-    assert!(rt; length == 16 || length == 32 || length == 64);
+    assert!(rt; is_length(length));
     let mut cache = Cache::new(length);
     put(rt, &mut cache, 0, (first, S, NONE));
     put(rt, &mut cache, 0, (second, S, NONE));
@@ -348,7 +356,7 @@ const STORES: &str = "
 fn is_store(rt: &impl Abort, row: &str) -> Option<bool> {
     let (length, offset) = (index(row, 0), number(row, 1));
     let (width, value) = (number(row, 2), hex(row, 3)?);
-    assert!(rt; length == 16 || length == 32 || length == 64);
+    assert!(rt; is_length(length));
     let addr = 4 * length as u32;
     let mut cache = pair(rt, length, (SpE, stored(0xf0)), (S, NONE));
     assert!(rt; offset < cache.line_length() as u32 && (width == 1 || width == 2 || width == 4));
@@ -400,7 +408,7 @@ fn counted_but_for(length: usize, first: usize, count: usize) -> [u8; LONGEST_LI
 fn is_refresh(rt: &impl Abort, row: &str) -> Option<bool> {
     let (length, mask) = (index(row, 0), mask_at(row, 1)?);
     let (first, count) = (index(row, 2), index(row, 3));
-    assert!(rt; length == 16 || length == 32 || length == 64);
+    assert!(rt; is_length(length));
     let addr = 8 * length as u32;
     let cache = pair(rt, length, (S, NONE), (SpS, stored(mask)));
     let length = cache.line_length();
@@ -446,7 +454,7 @@ SpE r 1 | I | M
 
 /// A cache with lines of this state and these marks: one beside a line that was loaded, and one alone in its set.
 fn twice(rt: &impl Abort, length: usize, state: LineState, marks: Marks) -> Cache {
-    assert!(rt; length == 16 || length == 32 || length == 64);
+    assert!(rt; is_length(length));
     let mut cache = pair(rt, length, (state, marks), (SpE, LOADED));
     put(rt, &mut cache, 1, (7 * length as u32, state, marks));
     cache
@@ -465,7 +473,7 @@ fn are_all(rt: &impl Abort, cache: &Cache, length: usize, state: LineState) -> b
 fn is_roll_back(rt: &impl Abort, row: &str, length: usize) -> Option<bool> {
     let (before, marks) = (state(word(row, 0))?, marks(row, 1, 0)?);
     let (back, published) = (state(cell(row, 1))?, state(cell(row, 2))?);
-    assert!(rt; length == 16 || length == 32 || length == 64);
+    assert!(rt; is_length(length));
     let mut rolled_back = twice(rt, length, before, marks);
     rolled_back.roll_back_all();
     let mut settled = twice(rt, length, before, marks);
