@@ -1,80 +1,38 @@
 //! Whether epochs that cores can run beside each other conflict, also those past the loop's end.
 
+use crate::words::{cell, image_in, is_row, number_in};
 use dependences::{CacheConflict, conflict_over_caches, conflicts_over_bytes};
-use rv32_exec::{Image, NoMemory, image_of};
+use rv32_exec::{Image, NoMemory};
 use std::alloc::Global;
+use std::process::Abort;
 use std::test::Fail;
 
 /// Loops, and the least number of cores, up to 8, on which two epochs of it conflict over bytes, and over lines of the caches. The
 /// values of the first six are those of an independent program; the others are worked out by hand.
-const ROWS: [(&str, Option<u32>, Option<u32>); 11] = [
-    // Four counters in turn.
-    (
-        "size 256\nepochs 16\nlimit 200\ncode 93753500370600001306060493952500b385c50003a605009306000013074000131515003345d50093861600e39ae6fe1305160023a0a50067800000\n",
-        Some(5),
-        Some(2),
-    ),
-    // The same, 64 bytes apart.
-    (
-        "size 256\nepochs 16\nlimit 200\ncode 93753500370600001306060493954500b385c50003a605009306000013074000131515003345d50093861600e39ae6fe1305160023a0a50067800000\n",
-        Some(5),
-        Some(5),
-    ),
-    // In lines of 32 bytes.
-    (
-        "version 2\nsize 131072\nepochs 4\nlimit 100\ncode 370302009312450033035300832303f0b383a300232073f067800000\nat 0001ff10 0a\n",
-        None,
-        Some(2),
-    ),
-    // Each epoch loads a word and stores in the one before it.
-    (
-        "size 256\nepochs 7\nlimit 100\ncode 9312250003a3420423a0620467800000\n",
-        None,
-        Some(2),
-    ),
-    // A word for each epoch, and the greatest of four.
-    (
-        "size 128\nepochs 12\nlimit 100\ncode 9377350093060007939727001315250013070004b387d7003307a70083a60700032707006374d7001387060023a0e70067800000\nat 00000040 03000000080000000200000007000000\nat 00000050 09000000010000000b00000004000000\nat 00000060 05000000060000000a00000000000000\n",
-        Some(5),
-        Some(2),
-    ),
-    // Epochs past the exit that store and load a word, and none that commits stores it.
-    (
-        "size 256\nepochs 3\nlimit 100\nexit\ncode 9302f5ff639402002320a0041303e5ff63140300832300041305100067800000\n",
-        None,
-        Some(3),
-    ),
-    // lw x5, 64(x0); sw x5, 64(x0); addi x10, x0, 1; jalr x0, 0(x1): epoch 0 exits, and the next one reads what it stores.
-    (
-        "size 256\nepochs 16\nlimit 100\nexit\ncode 83220004232050041305100067800000\n",
-        Some(2),
-        Some(2),
-    ),
-    // sw x10, 64(x0); lw x5, 64(x0); addi x10, x0, 1; jalr x0, 0(x1): epoch 0 exits, and each reads what it stores itself.
-    (
-        "size 256\nepochs 16\nlimit 100\nexit\ncode 2320a004832200041305100067800000\n",
-        None,
-        None,
-    ),
-    // Epoch 0 stores a word and exits, and of those past it epoch 2 loads that word.
-    (
-        "size 256\nepochs 16\nlimit 100\nexit\ncode 9302e5ff639402000323000463160500232000041305100067800000\n",
-        Some(3),
-        Some(3),
-    ),
-    // The same, but that the loop has two epochs.
-    (
-        "size 256\nepochs 2\nlimit 100\nexit\ncode 9302e5ff639402000323000463160500232000041305100067800000\n",
-        None,
-        None,
-    ),
-    // lw x5, 64(x0); sw x5, 64(x0); a word that is no instruction: epoch 0 faults.
-    (
-        "size 256\nepochs 16\nlimit 100\ncode 832200042320500400000000\n",
-        Some(2),
-        Some(2),
-    ),
-];
+const ROWS: &str = "
+# Four counters in turn.
+size 256; epochs 16; limit 200; code 93753500370600001306060493952500b385c50003a605009306000013074000131515003345d50093861600e39ae6fe1305160023a0a50067800000 | 5 | 2
+# The same, 64 bytes apart.
+size 256; epochs 16; limit 200; code 93753500370600001306060493954500b385c50003a605009306000013074000131515003345d50093861600e39ae6fe1305160023a0a50067800000 | 5 | 5
+# In lines of 32 bytes.
+version 2; size 131072; epochs 4; limit 100; code 370302009312450033035300832303f0b383a300232073f067800000; at 0001ff10 0a | - | 2
+# Each epoch loads a word and stores in the one before it.
+size 256; epochs 7; limit 100; code 9312250003a3420423a0620467800000 | - | 2
+# A word for each epoch, and the greatest of four.
+size 128; epochs 12; limit 100; code 9377350093060007939727001315250013070004b387d7003307a70083a60700032707006374d7001387060023a0e70067800000; at 00000040 03000000080000000200000007000000; at 00000050 09000000010000000b00000004000000; at 00000060 05000000060000000a00000000000000 | 5 | 2
+# Epochs past the exit that store and load a word, and none that commits stores it.
+size 256; epochs 3; limit 100; exit; code 9302f5ff639402002320a0041303e5ff63140300832300041305100067800000 | - | 3
+# lw x5, 64(x0); sw x5, 64(x0); addi x10, x0, 1; jalr x0, 0(x1): epoch 0 exits, and the next one reads what it stores.
+size 256; epochs 16; limit 100; exit; code 83220004232050041305100067800000 | 2 | 2
+# sw x10, 64(x0); lw x5, 64(x0); addi x10, x0, 1; jalr x0, 0(x1): epoch 0 exits, and each reads what it stores itself.
+size 256; epochs 16; limit 100; exit; code 2320a004832200041305100067800000 | - | -
+# Epoch 0 stores a word and exits, and of those past it epoch 2 loads that word.
+size 256; epochs 16; limit 100; exit; code 9302e5ff639402000323000463160500232000041305100067800000 | 3 | 3
+# The same, but that the loop has two epochs.
+size 256; epochs 2; limit 100; exit; code 9302e5ff639402000323000463160500232000041305100067800000 | - | -
+# lw x5, 64(x0); sw x5, 64(x0); a word that is no instruction: epoch 0 faults.
+size 256; epochs 16; limit 100; code 832200042320500400000000 | 2 | 2
+";
 
 /// Whether it conflicts over bytes on so many cores. Where memory is refused it says so, and the next call is as if nothing had
 /// been.
@@ -105,57 +63,70 @@ fn is_reached(least: Option<u32>, cores: u32) -> bool {
     }
 }
 
-/// On each number of cores a loop conflicts or not.
+/// Whether a row's loop conflicts on so many cores where the row says.
+fn is_beside(alloc: Global, image: &Image, row: &str, cores: u32) -> Result<bool, NoMemory> {
+    let in_bytes = over_bytes(alloc, image, cores)?;
+    let found = over_caches(alloc, image, cores)?;
+    let is_line = matches!(found, Some(CacheConflict::Line { .. }));
+    Ok(
+        in_bytes == is_reached(number_in(row, 1), cores)
+            && is_line == found.is_some()
+            && is_line == is_reached(number_in(row, 2), cores),
+    )
+}
+
+/// On each number of cores a row's loop conflicts or not.
+fn are_beside(rt: &impl Abort, alloc: Global, row: &str) -> Result<(), Fail> {
+    let image = image_in(alloc, cell(row, 0))?;
+    for cores in 0..9 {
+        assert!(rt; is_beside(alloc, &image, row, cores)?, "{cores} {row}");
+    }
+    Ok(())
+}
+
 #[test]
 fn conflicts_begin_with_so_many_cores(rt: HostRuntime) -> Result<(), Fail> {
-    for (text, bytes, lines) in ROWS {
-        let image = image_of(rt.alloc(), text.as_bytes())?;
-        for cores in 0..9 {
-            let found = over_bytes(rt.alloc(), &image, cores)?;
-            assert!(rt; found == is_reached(bytes, cores), "bytes, {cores} {text}");
-            let found = over_caches(rt.alloc(), &image, cores)?;
-            let is_line = matches!(found, Some(CacheConflict::Line { .. }));
-            assert!(rt;
-                is_line == found.is_some() && is_line == is_reached(lines, cores),
-                "lines, {cores} {text}"
-            );
+    for row in ROWS.split('\n') {
+        if is_row(row) {
+            are_beside(&rt, rt.alloc(), row)?;
         }
     }
     Ok(())
 }
 
-/// Code of loops that load nothing, and the least number of cores, up to 8, on which a buffer of 4 lines is too small, worked out by
-/// hand.
-const STORES: [(&str, Option<u32>); 4] = [
-    // sw x0, 64(x0) and so on, each 16 bytes further: each epoch stores in the same four lines.
-    ("2320000423280004232000062328000667800000", None),
-    // In the same five.
-    ("232000042328000423200006232800062320000867800000", Some(2)),
-    // slli x6, x10, 7; sw x0, 64(x6) and so on: in five of its own.
-    (
-        "13137500232003042328030423200306232803062320030867800000",
-        None,
-    ),
-    // Epoch 2 stores in five, and epoch 0 in one of these.
-    (
-        "9302e5ff639c02002320000423280004232000062328000623200008631405002322000467800000",
-        Some(3),
-    ),
-];
+/// Loops that load nothing, and the least number of cores, up to 8, on which a buffer of 4 lines is too small, worked out by hand.
+const STORES: &str = "
+# sw x0, 64(x0) and so on, each 16 bytes further: each epoch stores in the same four lines.
+size 4096; epochs 8; limit 100; code 2320000423280004232000062328000667800000 | -
+# In the same five.
+size 4096; epochs 8; limit 100; code 232000042328000423200006232800062320000867800000 | 2
+# slli x6, x10, 7; sw x0, 64(x6) and so on: in five of its own.
+size 4096; epochs 8; limit 100; code 13137500232003042328030423200306232803062320030867800000 | -
+# Epoch 2 stores in five, and epoch 0 in one of these.
+size 4096; epochs 8; limit 100; code 9302e5ff639c02002320000423280004232000062328000623200008631405002322000467800000 | 3
+";
 
-/// On each number of cores a buffer is too small or not.
+/// Whether a buffer is too small for a row's loop on so many cores where the row says.
+fn is_too_small(alloc: Global, image: &Image, row: &str, cores: u32) -> Result<bool, NoMemory> {
+    let found = over_caches(alloc, image, cores)?;
+    let is_buffer = matches!(found, Some(CacheConflict::Buffer { .. }));
+    Ok(is_buffer == found.is_some() && is_buffer == is_reached(number_in(row, 1), cores))
+}
+
+/// On each number of cores a buffer is too small for a row's loop or not.
+fn are_too_small(rt: &impl Abort, alloc: Global, row: &str) -> Result<(), Fail> {
+    let image = image_in(alloc, cell(row, 0))?;
+    for cores in 0..9 {
+        assert!(rt; is_too_small(alloc, &image, row, cores)?, "{cores} {row}");
+    }
+    Ok(())
+}
+
 #[test]
 fn buffers_are_too_small_with_so_many_cores(rt: HostRuntime) -> Result<(), Fail> {
-    for (code, least) in STORES {
-        let text = format!(in rt.alloc(); "size 4096\nepochs 8\nlimit 100\ncode {code}\n")?;
-        let image = image_of(rt.alloc(), text.as_bytes())?;
-        for cores in 0..9 {
-            let found = over_caches(rt.alloc(), &image, cores)?;
-            let is_buffer = matches!(found, Some(CacheConflict::Buffer { .. }));
-            assert!(rt;
-                is_buffer == found.is_some() && is_buffer == is_reached(least, cores),
-                "{cores} {text}"
-            );
+    for row in STORES.split('\n') {
+        if is_row(row) {
+            are_too_small(&rt, rt.alloc(), row)?;
         }
     }
     Ok(())

@@ -3,6 +3,7 @@
 
 mod rows;
 
+use crate::words::{hex, word};
 use rows::{IMMEDIATES, JUMPS_AND_UPPER_IMMEDIATES, LOADS_AND_STORES, REGISTERS};
 use rv32_decode::{Destination, Instr, Refused, Register, decode};
 use std::process::Abort;
@@ -60,16 +61,6 @@ fn shown(instr: Instr) -> (&'static str, [u32; 3]) {
         Instr::And { rd, rs1, rs2 } => ("and", [d(rd), x(rs1), x(rs2)]),
         _ => ("", [0, 0, 0]),
     }
-}
-
-/// The word at a place of a row, counted from 0; empty where there is none.
-fn word<'a>(row: &'a str, place: usize) -> &'a str {
-    row.split_whitespace().nth(place).unwrap_or("")
-}
-
-/// The number at a place of a row, in hexadecimal.
-fn hex(row: &str, place: usize) -> Option<u32> {
-    u32::from_str_radix(word(row, place), 16).ok()
 }
 
 /// Whether a row's word is that instruction, with those fields.

@@ -17,3 +17,5 @@ mod flow;
 mod images;
 #[cfg(test)]
 mod timings;
+#[cfg(test)]
+mod words;
