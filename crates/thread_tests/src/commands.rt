@@ -161,10 +161,12 @@ fn asked(words: &str) -> MachineAsked {
 #[test]
 fn a_run_answers(rt: HostRuntime) {
     let large = asked("caches:sets=64,ways=4,buffer=16");
-    for line in RUNS.split('\n').filter(|line| is_row(line)) {
-        answers(&rt, rt.alloc(), line);
-        answers_over::<CachedBus, HostRuntime>(&rt, rt.alloc(), large, line);
-        answers_over::<PlainStore, HostRuntime>(&rt, rt.alloc(), MachineAsked::NOTHING, line);
+    for line in RUNS.split('\n') {
+        if is_row(line) {
+            answers(&rt, rt.alloc(), line);
+            answers_over::<CachedBus, HostRuntime>(&rt, rt.alloc(), large, line);
+            answers_over::<PlainStore, HostRuntime>(&rt, rt.alloc(), MachineAsked::NOTHING, line);
+        }
     }
 }
 
@@ -180,17 +182,23 @@ const RUNNABLE: &str = "
 1 | caches:sets=3 | no
 ";
 
+/// Whether the loop can be run on the machine of a row.
+fn is_runnable(alloc: Global, line: &str) -> Result<bool, Fail> {
+    let mut reader = COUNTER.as_bytes();
+    let image = read_image(alloc, &mut reader)?;
+    let on = runnable(image, asked(cell(line, 1)), number(cell(line, 0), 0).max(1));
+    Ok(on.is_some())
+}
+
 #[test]
-fn a_loop_is_runnable_on_some_machines(rt: HostRuntime) {
-    for line in RUNNABLE.split('\n').filter(|line| is_row(line)) {
-        let mut reader = COUNTER.as_bytes();
-        let Ok(image) = read_image(rt.alloc(), &mut reader) else {
-            assert!(rt; false);
-            return;
-        };
-        let on = runnable(image, asked(cell(line, 1)), number(cell(line, 0), 0).max(1));
-        assert!(rt; on.is_some() == (cell(line, 2) == "yes"), "{line}");
+fn a_loop_is_runnable_on_some_machines(rt: HostRuntime) -> Result<(), Fail> {
+    for line in RUNNABLE.split('\n') {
+        if is_row(line) {
+            let is_so = is_runnable(rt.alloc(), line)?;
+            assert!(rt; is_so == (cell(line, 2) == "yes"), "{line}");
+        }
     }
+    Ok(())
 }
 
 /// A run that a gate, a reader or a writer stops, with the only line on standard error.

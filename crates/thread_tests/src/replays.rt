@@ -1,106 +1,34 @@
 //! `replay`: a history that is full is told as such, and not as want of memory, which no contract can say; and what the words of a store
 //! ask for.
-ghost use Rattle.std.specs.Prelude.{◌≤◌};
 
 use crate::words::{cell, is_row, number};
 use all_schedules::work;
 use core_threads::Open;
 use std::alloc::Global;
+use std::process::Abort;
 use std::sync::Wait;
+use std::test::Fail;
 use std::thread::Threads;
 
 /// An epoch that loads a word. On one core it makes an entry in each turn: its start, its load, its commit.
 const LOAD: &str = "size 256\nepochs 1\nlimit 50\ncode 8322000467800000\n";
 
-/// Whether the program, with these words and so much room, ends so.
-fn ends<T: Threads + Wait + Sync>(
-    rt: &T,
-    alloc: Global,
-    words: &[&str],
-    input: &str,
-    room: u32,
-    output: &str,
-    errors: &str,
-    status: u8,
-) -> bool
-    requires least { 16 ≤ room }
-    requires most { room ≤ 1048576 }
-{
-    let mut reader = input.as_bytes();
-    let mut written = Vec::new(alloc);
-    let mut told = Vec::new(alloc);
-    let answer = work(
-        rt,
-        alloc,
-        words,
-        room,
-        &Open,
-        &mut reader,
-        &mut written,
-        &mut told,
-    );
-    answer == status
-        && written.as_slice() == output.as_bytes()
-        && told.as_slice() == errors.as_bytes()
-}
+/// What is printed of it, below the turns.
+const LOADED: &str =
+    "end done 1\ncounts 1 0 0 1\ntrace 1\n0 start 0\n0 load 00000040 4 00000000\n0 commit\n";
+
+/// The same with the turns of one core.
+const LOADED_BY_TURNS: &str =
+    "turns 0 0 0\nend done 1\ncounts 1 0 0 1\ntrace 1\n0 start 0\n0 load 00000040 4 00000000\n0 commit\n";
+
+/// The image with its trace.
+const LOAD_TRACED: &str =
+    "size 256\nepochs 1\nlimit 50\ncode 8322000467800000\ntrace 1\n0 start 0\n0 load 00000040 4 00000000\n0 commit\n";
+
+/// What `all` prints of the schedules of two turns.
+const NONE_OVER: &str = "schedules 1\nover 0\nhistories 1\n";
 
 const FULL: &str = "stopped HistoryFull\n";
-
-/// A turn asks for 16 free entries, and the second finds what the first has left.
-#[test]
-fn all_tells_a_full_history(rt: HostRuntime) {
-    let alloc = rt.alloc();
-    for store in ["plain", "caches"] {
-        let words = ["replay", "all", store, "1", "2"];
-        assert!(rt;
-            ends(
-                &rt,
-                alloc,
-                &words,
-                LOAD,
-                17,
-                "schedules 1\nover 0\nhistories 1\n",
-                "",
-                0
-            )
-        );
-        assert!(rt; ends(&rt, alloc, &words, LOAD, 16, "", FULL, 3));
-    }
-}
-
-/// The third turn finds what the first two have left.
-#[test]
-fn other_schedules_tell_a_full_history(rt: HostRuntime) {
-    let alloc = rt.alloc();
-    let printed =
-        "turns 0 0 0\nend done 1\ncounts 1 0 0 1\ntrace 1\n0 start 0\n0 load 00000040 4 00000000\n0 commit\n";
-    for store in ["plain", "caches"] {
-        let words = ["replay", "even", store, "1"];
-        assert!(rt; ends(&rt, alloc, &words, LOAD, 18, printed, "", 0));
-        assert!(rt; ends(&rt, alloc, &words, LOAD, 17, "", FULL, 3));
-        let words = ["replay", "seeded", "1", store, "1"];
-        assert!(rt; ends(&rt, alloc, &words, LOAD, 18, printed, "", 0));
-        assert!(rt; ends(&rt, alloc, &words, LOAD, 17, "", FULL, 3));
-        let words = ["replay", "threads", store, "1"];
-        assert!(rt; ends(&rt, alloc, &words, LOAD, 18, below_turns(printed), "", 0));
-        assert!(rt; ends(&rt, alloc, &words, LOAD, 17, "", FULL, 3));
-    }
-}
-
-/// So does the third turn of a trace.
-#[test]
-fn a_trace_tells_a_full_history(rt: HostRuntime) {
-    let alloc = rt.alloc();
-    let traced =
-        "size 256\nepochs 1\nlimit 50\ncode 8322000467800000\ntrace 1\n0 start 0\n0 load 00000040 4 00000000\n0 commit\n";
-    let printed =
-        "end done 1\ncounts 1 0 0 1\ntrace 1\n0 start 0\n0 load 00000040 4 00000000\n0 commit\n";
-    for store in ["plain", "caches"] {
-        let words = ["replay", store];
-        assert!(rt; ends(&rt, alloc, &words, traced, 18, printed, "", 0));
-        assert!(rt; ends(&rt, alloc, &words, traced, 17, "", FULL, 3));
-    }
-}
 
 /// An epoch that loads a word, and one 16 bytes on.
 const TWO_LOADS: &str = "size 160\nepochs 1\nlimit 50\ncode 832200040323000567800000\n";
@@ -116,6 +44,176 @@ const ONE_BY_ONE: &str =
 const USAGE: &str = "usage\n";
 
 const NO_IMAGE: &str = "image 0 MissingOrRepeated\n";
+
+/// The image with the trace of the run that publishes.
+const TRACED: &str =
+    "size 160\nepochs 1\nlimit 50\ncode 832200040323000567800000\ntrace 1\n0 start 0\n0 load 00000040 4 00000000\n0 publish\n0 load 00000050 4 00000000\n0 commit\n";
+
+/// The image with the turns of either run.
+const TURNS: &str = "size 160\nepochs 1\nlimit 50\ncode 832200040323000567800000\nturns 0 0 0 0\n";
+
+/// What `all` prints of the one schedule of four turns.
+const EVERY: &str =
+    "schedules 1\nover 1\nhistories 1\nleast 0\nturns 0 0 0 0\nmost 0\nturns 0 0 0 0\nend done 1\n";
+
+/// The text that has this name in a row; an empty cell is no text.
+fn text_of(name: &str) -> &'static str {
+    match name {
+        "LOAD" => LOAD,
+        "LOADED" => LOADED,
+        "LOADED_BY_TURNS" => LOADED_BY_TURNS,
+        "LOAD_TRACED" => LOAD_TRACED,
+        "NONE_OVER" => NONE_OVER,
+        "FULL" => FULL,
+        _ => later_text_of(name),
+    }
+}
+
+/// The same of the other texts.
+fn later_text_of(name: &str) -> &'static str {
+    match name {
+        "TWO_LOADS" => TWO_LOADS,
+        "BOTH" => below_turns(BOTH),
+        "BOTH_BY_TURNS" => BOTH,
+        "ONE_BY_ONE" => below_turns(ONE_BY_ONE),
+        "ONE_BY_ONE_BY_TURNS" => ONE_BY_ONE,
+        "TRACED" => TRACED,
+        "TURNS" => TURNS,
+        "EVERY" => EVERY,
+        "USAGE" => USAGE,
+        "NO_IMAGE" => NO_IMAGE,
+        "DIFFERS" => "differs 2\n",
+        _ => "",
+    }
+}
+
+/// What a replay of turns prints: all of the run but its turns.
+fn below_turns(printed: &'static str) -> &'static str {
+    match printed.split_once('\n') {
+        Some((_turns, below)) => below,
+        None => "",
+    }
+}
+
+/// The program's words, after its name; `EMPTY` is a word of no letters.
+fn words_of<'a>(alloc: Global, text: &'a str) -> Result<Vec<&'a str>, Fail> {
+    let mut words = Vec::new(alloc);
+    words.push("replay")?;
+    for word in text.split_whitespace() {
+        words.push(if word == "EMPTY" { "" } else { word })?;
+    }
+    Ok(words)
+}
+
+/// A run of the program: what it is given, and what it comes to.
+#[derive(Clone, Copy)]
+struct Run<'a> {
+    words: &'a str,
+    input: &'static str,
+    room: u32,
+    status: u32,
+    output: &'static str,
+    errors: &'static str,
+}
+
+/// Whether the program, with these words and so much room, ends so.
+fn ends<T: Abort + Threads + Wait + Sync>(rt: &T, alloc: Global, run: &Run) -> Result<bool, Fail> {
+    let room = run.room;
+    assert!(rt; 16 <= room && room <= 1_048_576);
+    let words = words_of(alloc, run.words)?;
+    let mut reader = run.input.as_bytes();
+    let mut written = Vec::new(alloc);
+    let mut told = Vec::new(alloc);
+    let status = work(
+        rt,
+        alloc,
+        words.as_slice(),
+        room,
+        &Open,
+        &mut reader,
+        &mut written,
+        &mut told,
+    );
+    Ok(
+        u32::from(status) == run.status
+            && written.as_slice() == run.output.as_bytes()
+            && told.as_slice() == run.errors.as_bytes(),
+    )
+}
+
+/// The run of a row.
+fn run_of<'a>(row: &'a str) -> Run<'a> {
+    Run {
+        words: cell(row, 0),
+        input: text_of(cell(row, 1)),
+        room: number(cell(row, 2), 0),
+        status: number(cell(row, 3), 0),
+        output: text_of(cell(row, 4)),
+        errors: text_of(cell(row, 5)),
+    }
+}
+
+/// Each row of a table holds.
+fn are_rows<T: Abort + Threads + Wait + Sync>(
+    rt: &T,
+    alloc: Global,
+    rows: &str,
+) -> Result<(), Fail> {
+    for row in rows.split('\n') {
+        if is_row(row) {
+            assert!(rt; ends(rt, alloc, &run_of(row))?, "{row}");
+        }
+    }
+    Ok(())
+}
+
+/// The program's words after its name, the input, the room, the status, and the texts on standard output and standard error. A turn asks for
+/// 16 free entries, and the second finds what the first has left.
+const ALL_FULL: &str = "
+all plain 1 2 | LOAD | 17 | 0 | NONE_OVER |
+all plain 1 2 | LOAD | 16 | 3 | | FULL
+all caches 1 2 | LOAD | 17 | 0 | NONE_OVER |
+all caches 1 2 | LOAD | 16 | 3 | | FULL
+";
+
+#[test]
+fn all_tells_a_full_history(rt: HostRuntime) -> Result<(), Fail> {
+    are_rows(&rt, rt.alloc(), ALL_FULL)
+}
+
+/// The third turn finds what the first two have left.
+const OTHERS_FULL: &str = "
+even plain 1 | LOAD | 18 | 0 | LOADED_BY_TURNS |
+even plain 1 | LOAD | 17 | 3 | | FULL
+seeded 1 plain 1 | LOAD | 18 | 0 | LOADED_BY_TURNS |
+seeded 1 plain 1 | LOAD | 17 | 3 | | FULL
+threads plain 1 | LOAD | 18 | 0 | LOADED |
+threads plain 1 | LOAD | 17 | 3 | | FULL
+even caches 1 | LOAD | 18 | 0 | LOADED_BY_TURNS |
+even caches 1 | LOAD | 17 | 3 | | FULL
+seeded 1 caches 1 | LOAD | 18 | 0 | LOADED_BY_TURNS |
+seeded 1 caches 1 | LOAD | 17 | 3 | | FULL
+threads caches 1 | LOAD | 18 | 0 | LOADED |
+threads caches 1 | LOAD | 17 | 3 | | FULL
+";
+
+#[test]
+fn other_schedules_tell_a_full_history(rt: HostRuntime) -> Result<(), Fail> {
+    are_rows(&rt, rt.alloc(), OTHERS_FULL)
+}
+
+/// So does the third turn of a trace.
+const TRACE_FULL: &str = "
+plain | LOAD_TRACED | 18 | 0 | LOADED |
+plain | LOAD_TRACED | 17 | 3 | | FULL
+caches | LOAD_TRACED | 18 | 0 | LOADED |
+caches | LOAD_TRACED | 17 | 3 | | FULL
+";
+
+#[test]
+fn a_trace_tells_a_full_history(rt: HostRuntime) -> Result<(), Fail> {
+    are_rows(&rt, rt.alloc(), TRACE_FULL)
+}
 
 /// The words of a store, and what a run over it prints. `no machine`: there is none, or memory, of 160 bytes, is no whole number of its lines.
 const STORES: &str = "
@@ -165,172 +263,126 @@ plain:sets=1 | no words
 :sets=1 | no words
 ";
 
-/// What a replay of turns prints: all of the run but its turns.
-fn below_turns(printed: &'static str) -> &'static str {
-    match printed.split_once('\n') {
-        Some((_turns, below)) => below,
-        None => "",
-    }
+/// Whether a run of these words and input, over 64 entries, ends so.
+fn ends_so<T: Abort + Threads + Wait + Sync>(
+    rt: &T,
+    alloc: Global,
+    words: &str,
+    input: &'static str,
+    status: u32,
+    output: &'static str,
+    errors: &'static str,
+) -> Result<bool, Fail> {
+    let run = Run {
+        words,
+        input,
+        room: 64,
+        status,
+        output,
+        errors,
+    };
+    ends(rt, alloc, &run)
 }
 
-/// Whether a run at even speed on one core over this store prints this text, and one on a thread all of it but the turns.
-fn both_print<T: Threads + Wait + Sync>(
+/// Whether a run at even speed on one core over this store prints this text or is refused so, and one on a thread prints all of it but the
+/// turns or is refused so.
+fn both_end<T: Abort + Threads + Wait + Sync>(
     rt: &T,
     alloc: Global,
     store: &str,
-    printed: &'static str,
-) -> bool {
-    let below = below_turns(printed);
-    ends(
-        rt,
-        alloc,
-        &["replay", "even", store, "1"],
-        TWO_LOADS,
-        64,
-        printed,
-        "",
-        0,
-    ) && ends(
-        rt,
-        alloc,
-        &["replay", "threads", store, "1"],
-        TWO_LOADS,
-        64,
-        below,
-        "",
-        0,
-    )
-}
-
-/// Whether both refuse this input so.
-fn both_refuse<T: Threads + Wait + Sync>(
-    rt: &T,
-    alloc: Global,
-    store: &str,
-    input: &str,
-    errors: &str,
-) -> bool {
-    ends(
-        rt,
-        alloc,
-        &["replay", "even", store, "1"],
-        input,
-        64,
-        "",
-        errors,
-        2,
-    ) && ends(
-        rt,
-        alloc,
-        &["replay", "threads", store, "1"],
-        input,
-        64,
-        "",
-        errors,
-        2,
+    input: &'static str,
+    status: u32,
+    output: &'static str,
+    errors: &'static str,
+) -> Result<bool, Fail> {
+    let even = format!(in alloc; "even {store} 1")?;
+    let threads = format!(in alloc; "threads {store} 1")?;
+    let below = below_turns(output);
+    Ok(
+        ends_so(rt, alloc, even.as_str(), input, status, output, errors)?
+            && ends_so(rt, alloc, threads.as_str(), input, status, below, errors)?,
     )
 }
 
 /// Whether runs on one core, over the store of a row, print what the row says. Words are refused before an image is read, and a machine
 /// afterwards.
-fn prints_row<T: Threads + Wait + Sync>(rt: &T, alloc: Global, row: &str) -> bool {
+fn prints_row<T: Abort + Threads + Wait + Sync>(
+    rt: &T,
+    alloc: Global,
+    row: &str,
+) -> Result<bool, Fail> {
     let store = cell(row, 0);
     match cell(row, 1) {
-        "both" => both_print(rt, alloc, store, BOTH),
-        "one by one" => both_print(rt, alloc, store, ONE_BY_ONE),
-        "no machine" => {
-            both_refuse(rt, alloc, store, "", NO_IMAGE)
-                && both_refuse(rt, alloc, store, TWO_LOADS, USAGE)
-        }
-        "no words" => both_refuse(rt, alloc, store, "", USAGE),
-        _ => false,
+        "both" => both_end(rt, alloc, store, TWO_LOADS, 0, BOTH, ""),
+        "one by one" => both_end(rt, alloc, store, TWO_LOADS, 0, ONE_BY_ONE, ""),
+        "no machine" => Ok(
+            both_end(rt, alloc, store, "", 2, "", NO_IMAGE)?
+                && both_end(rt, alloc, store, TWO_LOADS, 2, "", USAGE)?,
+        ),
+        "no words" => both_end(rt, alloc, store, "", 2, "", USAGE),
+        _ => Ok(false),
     }
 }
 
 #[test]
-fn a_store_is_on_the_machine_of_its_words(rt: HostRuntime) {
-    for row in STORES.split('\n').filter(|row| is_row(row)) {
-        assert!(rt; prints_row(&rt, rt.alloc(), row), "{row}");
+fn a_store_is_on_the_machine_of_its_words(rt: HostRuntime) -> Result<(), Fail> {
+    for row in STORES.split('\n') {
+        if is_row(row) {
+            assert!(rt; prints_row(&rt, rt.alloc(), row)?, "{row}");
+        }
     }
+    Ok(())
 }
 
 /// A version of images has at most so many cores; the image's own refusal comes first, and that of words before either.
-#[test]
-fn threads_take_as_many_cores_as_a_version_has(rt: HostRuntime) {
-    let alloc = rt.alloc();
-    for store in ["plain", "caches", "caches:sets=64,ways=4,buffer=16"] {
-        let words = ["replay", "threads", store, "9"];
-        assert!(rt; ends(&rt, alloc, &words, "", 64, "", NO_IMAGE, 2));
-        assert!(rt; ends(&rt, alloc, &words, LOAD, 64, "", USAGE, 2));
-        for cores in ["", "0", "17", "01", "-1"] {
-            let words = ["replay", "threads", store, cores];
-            assert!(rt; ends(&rt, alloc, &words, "", 64, "", USAGE, 2), "{cores}");
-        }
-        assert!(rt;
-            ends(
-                &rt,
-                alloc,
-                &["replay", "threads", store],
-                LOAD,
-                64,
-                "",
-                USAGE,
-                2
-            )
-        );
-        let words = ["replay", "threads", store, "1", "1"];
-        assert!(rt; ends(&rt, alloc, &words, LOAD, 64, "", USAGE, 2));
-    }
-    assert!(rt; ends(&rt, alloc, &["replay", "threads"], LOAD, 64, "", USAGE, 2));
-}
-
-/// The image with the trace of the run that publishes.
-const TRACED: &str =
-    "size 160\nepochs 1\nlimit 50\ncode 832200040323000567800000\ntrace 1\n0 start 0\n0 load 00000040 4 00000000\n0 publish\n0 load 00000050 4 00000000\n0 commit\n";
-
-/// The image with the turns of either run.
-const TURNS: &str = "size 160\nepochs 1\nlimit 50\ncode 832200040323000567800000\nturns 0 0 0 0\n";
+const CORES: &str = "
+threads plain 9 | | 64 | 2 | | NO_IMAGE
+threads plain 9 | LOAD | 64 | 2 | | USAGE
+threads plain EMPTY | | 64 | 2 | | USAGE
+threads plain 0 | | 64 | 2 | | USAGE
+threads plain 17 | | 64 | 2 | | USAGE
+threads plain 01 | | 64 | 2 | | USAGE
+threads plain -1 | | 64 | 2 | | USAGE
+threads plain | LOAD | 64 | 2 | | USAGE
+threads plain 1 1 | LOAD | 64 | 2 | | USAGE
+threads caches 9 | | 64 | 2 | | NO_IMAGE
+threads caches 9 | LOAD | 64 | 2 | | USAGE
+threads caches EMPTY | | 64 | 2 | | USAGE
+threads caches 0 | | 64 | 2 | | USAGE
+threads caches 17 | | 64 | 2 | | USAGE
+threads caches 01 | | 64 | 2 | | USAGE
+threads caches -1 | | 64 | 2 | | USAGE
+threads caches | LOAD | 64 | 2 | | USAGE
+threads caches 1 1 | LOAD | 64 | 2 | | USAGE
+threads caches:sets=64,ways=4,buffer=16 9 | | 64 | 2 | | NO_IMAGE
+threads caches:sets=64,ways=4,buffer=16 9 | LOAD | 64 | 2 | | USAGE
+threads caches:sets=64,ways=4,buffer=16 EMPTY | | 64 | 2 | | USAGE
+threads caches:sets=64,ways=4,buffer=16 0 | | 64 | 2 | | USAGE
+threads caches:sets=64,ways=4,buffer=16 17 | | 64 | 2 | | USAGE
+threads caches:sets=64,ways=4,buffer=16 01 | | 64 | 2 | | USAGE
+threads caches:sets=64,ways=4,buffer=16 -1 | | 64 | 2 | | USAGE
+threads caches:sets=64,ways=4,buffer=16 | LOAD | 64 | 2 | | USAGE
+threads caches:sets=64,ways=4,buffer=16 1 1 | LOAD | 64 | 2 | | USAGE
+threads | LOAD | 64 | 2 | | USAGE
+";
 
 #[test]
-fn each_command_is_on_the_machine_of_its_words(rt: HostRuntime) {
-    let alloc = rt.alloc();
-    let (one, default) = ("caches:sets=1,ways=1", "caches");
-    let told = below_turns(ONE_BY_ONE);
-    assert!(rt; ends(&rt, alloc, &["replay", one], TRACED, 64, told, "", 0));
-    assert!(rt;
-        ends(
-            &rt,
-            alloc,
-            &["replay", default],
-            TRACED,
-            64,
-            "",
-            "differs 2\n",
-            4
-        )
-    );
-    assert!(rt; ends(&rt, alloc, &["replay", one, "1"], TURNS, 64, told, "", 0));
-    assert!(rt;
-        ends(
-            &rt,
-            alloc,
-            &["replay", default, "1"],
-            TURNS,
-            64,
-            below_turns(BOTH),
-            "",
-            0
-        )
-    );
-    let words = ["replay", "seeded", "1", one, "1"];
-    assert!(rt; ends(&rt, alloc, &words, TWO_LOADS, 64, ONE_BY_ONE, "", 0));
-    // The last of four turns finds 16 free entries beside three, and none beside the four of the run that publishes.
-    let every = ["replay", "all", one, "1", "4"];
-    assert!(rt; ends(&rt, alloc, &every, TWO_LOADS, 19, "", FULL, 3));
-    let every = ["replay", "all", default, "1", "4"];
-    assert!(rt; ends(&rt, alloc, &every, TWO_LOADS, 19, EVERY, "", 0));
+fn threads_take_as_many_cores_as_a_version_has(rt: HostRuntime) -> Result<(), Fail> {
+    are_rows(&rt, rt.alloc(), CORES)
 }
 
-/// What `all` prints of the one schedule of four turns.
-const EVERY: &str =
-    "schedules 1\nover 1\nhistories 1\nleast 0\nturns 0 0 0 0\nmost 0\nturns 0 0 0 0\nend done 1\n";
+/// The last of four turns finds 16 free entries beside three, and none beside the four of the run that publishes.
+const MACHINES: &str = "
+caches:sets=1,ways=1 | TRACED | 64 | 0 | ONE_BY_ONE |
+caches | TRACED | 64 | 4 | | DIFFERS
+caches:sets=1,ways=1 1 | TURNS | 64 | 0 | ONE_BY_ONE |
+caches 1 | TURNS | 64 | 0 | BOTH |
+seeded 1 caches:sets=1,ways=1 1 | TWO_LOADS | 64 | 0 | ONE_BY_ONE_BY_TURNS |
+all caches:sets=1,ways=1 1 4 | TWO_LOADS | 19 | 3 | | FULL
+all caches 1 4 | TWO_LOADS | 19 | 0 | EVERY |
+";
+
+#[test]
+fn each_command_is_on_the_machine_of_its_words(rt: HostRuntime) -> Result<(), Fail> {
+    are_rows(&rt, rt.alloc(), MACHINES)
+}
