@@ -146,13 +146,17 @@ def long_code(program: str) -> Results:
 
 def on_threads(program: str) -> Results:
     """Nothing is stored, so nothing is violated, and no core waits for a line: each epoch makes as many entries
-    whatever the threads do."""
+    whatever the threads do. Every core begins some: before the first turn all are waited for, up to a second, and the
+    lock is fair."""
     for cores, version, epochs in ((4, "", 20_000), (CORES, "version 2\n", 6_000)):
         text = version + image(LOAD * 10 + RETURN, epochs=epochs)
         output, errors, status = run([program], ["run", "--cores", str(cores), "--trace"], text)
         above = f"end done {epochs}\ncounts {10 * epochs} 0 0 {epochs}\n"
         name = f"{12 * epochs:,} entries on {cores} threads"
         yield name, differs((output[:len(above)], errors, status), (above, "", 0))
+        began = {line.split()[0] for line in output[len(above):].splitlines() if " start " in line}
+        idle = [core for core in range(cores) if str(core) not in began]
+        yield f"{name}: every core begins", f"no epoch begins on cores {idle}" if idle else None
         yield f"{name}: their audit", differs(run([program], ["audit"], text + output[len(above):]),
                                               (f"legal {12 * epochs} {epochs}\n", "", 0))
 
