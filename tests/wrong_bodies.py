@@ -87,6 +87,14 @@ fn three_after(n: u32) -> u32
     n + 3
 }
 
+/// Whether a number is at least another one, below a head of several lines that no edit changes.
+pub fn is_at_least(
+    number_that_is_looked_at_first_of_these: u32,
+    number_that_it_has_to_be_at_the_least: u32,
+) -> bool {
+    number_that_it_has_to_be_at_the_least <= number_that_is_looked_at_first_of_these
+}
+
 /// The same, by steps with longer names.
 pub fn number_that_comes_two_steps_after_another_number(n: u32) -> u32
     requires { n < 99 }

@@ -1,7 +1,7 @@
 """Wrong bodies of a crate: what each edit changes, in which functions, and which of them can be tried together."""
 import os
 import re
-from collections.abc import Iterator, Sequence
+from collections.abc import Container, Iterator, Sequence
 from dataclasses import dataclass, replace
 from typing import NamedTuple
 
@@ -13,6 +13,7 @@ IMPORTS = ("use ", "ghost use ")
 CLAUSE = re.compile(r"(?m)^ *(?:requires|ensures)\b")
 MUCH = 8  # lines
 WITHOUT_ANSWERS = "without answers"
+CONSTANT = re.compile(r" *(?:pub(?:\([a-z ]+\))? )?const fn ")
 ARM = re.compile(r" *\w+::(\w+)(?: \{[^{}]*\})? => .*")
 
 
@@ -115,6 +116,21 @@ def is_of_proofs(file: str) -> bool:
 def has_body(function: Function, text: str) -> bool:
     """Whether a function has a body: one of a trait may have none."""
     return text.split("\n")[function.last - 1].rstrip().endswith("}")
+
+
+def without_bodies(sources: Sources, texts: Texts, functions: Container[str]) -> Texts:
+    """The texts of all source files, those in `texts` as they are there, in which these functions have a body that says
+    nothing: what calls a function rests on what it promises, but the checker reads the body too."""
+    made: Texts = {}
+    for file in sources.texts:
+        text = texts.get(file, sources.texts[file])
+        lines = text.split("\n")
+        for path, it in reversed(sources.functions(file, text).items()):
+            is_constant = any(CONSTANT.match(line) for line in lines[it.first - 1 : it.body])
+            if path in functions and it.body < it.last and not is_constant:
+                lines[it.body : it.last - 1] = ["unreachable!()"]
+        made[file] = "\n".join(lines)
+    return {**texts, **made}
 
 
 def changes_of(text: str) -> tuple[Change, ...]:

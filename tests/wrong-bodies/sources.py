@@ -56,8 +56,7 @@ def functions_of(text: str) -> list[Function]:
                 first -= 1
             cycle = next((it[1] for it in map(CYCLE.search, lines[first:at]) if it), function[2])
             last = last_line(lines, at, function[1])
-            braces = (function[1] + "{", function[1] + "{}")
-            body = next((it for it in range(at, last + 1) if lines[it].rstrip() in braces), at)
+            body = line_of_brace(lines, at, last, function[1])
             held = holders[-1] if holders else NO_HOLDER
             found.append(Function(held.name, held.type, function[2], cycle, first + 1, body + 1, last + 1))
     return found
@@ -84,6 +83,14 @@ def last_line(lines: Sequence[str], at: int, indent: str) -> int:
         if it > at and (lines[it].rstrip() in ends or depth == 0 and lines[it].rstrip().endswith("};")):
             return it
     return len(lines) - 1
+
+
+def line_of_brace(lines: Sequence[str], at: int, last: int, indent: str) -> int:
+    """The line with the brace of the body of a function on these lines: it stands alone below clauses, and else at the
+    end of the head. Where there is none, the first line."""
+    alone = (it for it in range(at, last + 1) if lines[it].rstrip() in (indent + "{", indent + "{}"))
+    behind = (it for it in range(at, last + 1) if lines[it].rstrip().endswith("{"))
+    return next(alone, next(behind, at))
 
 
 def header_from(lines: Sequence[str], at: int) -> str:
