@@ -31,10 +31,7 @@ LINES: list[tuple[str, dict[str, str], str, int, int, int]] = [
 def stubs(folder: Path, says: dict[str, str]) -> Path:
     """A folder with tests/run, and in the place of each test a program that says something."""
     shutil.copy(ROOT / "tests" / "run", folder)
-    names = re.findall(r"[\w/]+\.py",
-                       "".join(line for line in (ROOT / "tests" / "run").read_text().splitlines(True)
-                               if line.lstrip().startswith(("for ", "run "))))
-    for name in names:
+    for name in re.findall(r'"([\w/]+\.py)"', (ROOT / "tests" / "run").read_text(encoding="utf-8")):
         path = folder / name
         path.parent.mkdir(exist_ok=True)
         path.write_text(f"#!/bin/sh\n{says.get(path.name, 'echo 1 checks passed, 0 failed')}\n")
