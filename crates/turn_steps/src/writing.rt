@@ -1,5 +1,5 @@
 //! A text that is written as it grows.
-ghost use Rattle.std.specs.Prelude.{◌++◌, List, Option, ℕ};
+ghost use Rattle.std.specs.Prelude.{◌<◌, ◌++◌, List, Option, ℕ, vec_len};
 ghost use Rattle.turn_steps.specs.Writing as spec;
 
 use std::io::Write;
@@ -8,10 +8,12 @@ use trace_commands::write_bytes;
 /// So many bytes of a text are kept before they are written.
 const MOST_KEPT: usize = 65_536;
 
-/// Writes a text that has grown long, where all before it was written, notes whether this was too, and keeps none of it.
+/// Writes a text that has grown long, where all before it was written, notes whether this was too, and keeps none of it. So few bytes
+/// of a text are kept, however long that is.
 pub fn write_long<W: Write>(writer: &mut W, whole: &mut bool, text: &mut Vec<u8>)
-    ensures { (first : Option (List ℕ)) (told : List ℕ) → spec.IsWrittenBut text.old.items whole.old first (W.contents writer.old) told
+    ensures written { (first : Option (List ℕ)) (told : List ℕ) → spec.IsWrittenBut text.old.items whole.old first (W.contents writer.old) told
         → spec.IsWrittenBut text.new.items whole.new first (W.contents writer.new) told }
+    ensures kept { vec_len text.new < 65536 }
 {
     if text.len() < MOST_KEPT {
         return;

@@ -121,7 +121,7 @@ loop-number-preserved g c =
           c.in_ok-answer.answer (harts_of c.step_shown.new.held) c.in_default-answer.not-Over c.in_default-answer.not-Stopped c.in_ok-answer.ensures.harts (c.in_ok-answer.ensures.turned (λ is. absurd cc));
       told = (
         told.0 ++ turn.0,
-        c.write_long.ensures (g.W.Write.contents c.args.writer.now) (told.0 ++ turn.0)
+        c.write_long.ensures.written (g.W.Write.contents c.args.writer.now) (told.0 ++ turn.0)
             (grows_by c.loop-number.text.items told.0 c.loop-number.whole (g.W.Write.contents c.args.writer.now) (g.W.Write.contents c.loop-number.writer) told.1 turn.0 c.step_shown.new.text.items turn.2),
         λ rest end new below d. subst (λ ys. steps ys end new (told.0 ++ turn.0 ++ below)) (one_taken xs rest i c.loop-number-test.true)
             (tells_on g.S.EpochStore.makes g.S.EpochStore.view g.S.EpochStore.waits g.S.ShownStore.changes (harts_of c.loop-number.held) mid next (get_or xs i 0) i
