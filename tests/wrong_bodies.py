@@ -379,6 +379,11 @@ pub returns : goal.returns
 returns c = let one = c.one.ensures in omega (arith, one)
 """
 OVER_EDIT = [("    one() + 1", "    one() + 2")]
+# Edits of functions that no other crate calls, of which the second doesn't fit the source.
+INNER: dict[str, tuple[str, Sequence[Pair]]] = {
+    "over": ("next_to_one_is_four", [("    one() + 1", "    one() + 3")]),
+    "low": ("one_of_no_text", [("    one and more", "    2")]),
+}
 NOTES = "rattle-kept/wrong-bodies"
 
 
@@ -409,6 +414,8 @@ def repository(top: Path) -> None:
     write(top / "crates/over/specs/Two.antt", TWO)
     write(top / "crates/over/proofs/next_to_one/Answers.antt", OVER_ANSWERS)
     write(top / "tests/wrong-bodies/over/next_to_one_is_three.edit", edit_text(OVER_EDIT))
+    for crate, (name, inner) in INNER.items():
+        write(top / f"tests/wrong-bodies/{crate}/inner/{name}.edit", edit_text(inner))
     write(top / "crates/steps/src/lib.rt", SOURCE)
     write(top / "crates/steps/proofs/next_but_one/Answers.antt", ANSWERS)
     write(top / "crates/steps/proofs/two_by_steps/Answers.antt", STEPS_ANSWERS)
@@ -474,6 +481,7 @@ def keeping(top: Path, folder: Path, path: str) -> Iterator[tuple[str, str, str]
         with changed(it, folder / "aside"):
             yield f"{it.relative_to(folder)} changed", left(top, path), "1 to be tried, 0 kept"
     yield "with each as it was", left(top, path), "0 to be tried, 1 kept"
+    yield "with --inner", left(top, path, "--inner"), "1 to be tried, 1 kept"
     with changed(top / "crates/low/src/lib.rt", folder / "aside"):
         yield "the crate below changed", tried(top, path), "tried"
     write(top / "crates.txt", (top / "crates.txt").read_text().replace("over: low", "over: low hex"))
@@ -509,7 +517,8 @@ def of_another_type(top: Path, path: str) -> Iterator[tuple[str, str, str]]:
     """What is told of two edits of which one doesn't compile, with what has to be told."""
     said, lines, _ = told(top, path, "low")
     yield from ((name, said.get(name, "nothing"), wanted) for name, (_, wanted) in LOW_EDITS.items())
-    yield "the last line beside one that doesn't compile", lines[-1], "1 refused, 1 failed"
+    yield "one that isn't tried, and doesn't fit", said.get(INNER["low"][0], "nothing"), "FAILED, BAD EDIT: "
+    yield "the last line beside one that doesn't compile", lines[-1], "1 refused, 2 failed"
 
 
 def right_bodies(top: Path, path: str) -> Iterator[tuple[str, str, str]]:
