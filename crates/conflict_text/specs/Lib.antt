@@ -8,5 +8,7 @@ pub mod Explaining
 -- Words of contracts: what the words of a command line ask for, and what the command and the program come to.
 pub mod Asked
 pub mod Why
+-- Words of a loop: what is gathered up to a place.
+pub mod Gathered
 pub mod Work
 pub mod Totals

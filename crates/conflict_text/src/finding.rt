@@ -1,11 +1,12 @@
 //! The report of a history. It is replayed twice: for the sites of its entries, and for what is found of its violations. Of that the lines are
 //! kept, and the sums.
 
-ghost use Rattle.std.specs.Prelude.{◌≡◌, ◌+◌, ◌^◌, ◌<◌, ◌≤◌, ◌++◌, [], ℕ, IfOk, IfSome, List, MatchResult, OnOk, filter, length, option_map, option_to_list};
+ghost use Rattle.std.specs.Prelude.{◌≡◌, ◌+◌, ◌^◌, ◌<◌, ◌≤◌, ◌++◌, [], ℕ, Bool, IfOk, IfSome, List, MatchResult, OnOk, Option, filter, length, option_map, option_to_list};
 ghost use Rattle.spec_history.specs.declared.entry.Entry.{Entry};
 ghost use Rattle.spec_history.specs.View.{IsAuditFault, state_in};
 ghost use Rattle.trace_commands.specs.declared.outcome.Verdict.TheVariants.{Legal};
 ghost use Rattle.trace_commands.specs.Audit.{IsVerdict};
+ghost use Rattle.conflicts.specs.declared.standing.Site.{Site};
 ghost use Rattle.conflicts.specs.Behind.{IsBehind};
 ghost use Rattle.conflicts.specs.Sites.{sites_before};
 ghost use Rattle.conflict_findings.specs.declared.rollback.Rollback.{Rollback};
@@ -15,6 +16,7 @@ ghost use Rattle.conflict_findings.specs.Followed.{IsFollowed, IsFollowedTo};
 ghost use Rattle.conflict_findings.specs.Rollbacks.{rollback_at};
 ghost use Rattle.conflict_text.specs.Ends.{is_kept};
 ghost use Rattle.conflict_text.specs.Explaining.{IsReport};
+ghost use Rattle.conflict_text.specs.Gathered.{IsGathered};
 ghost use Rattle.conflict_text.specs.Why as spec;
 
 use crate::attempts::push_wanted;
@@ -22,7 +24,7 @@ use crate::ends::attempt_lines;
 use crate::lines::push_violation;
 use crate::report::{Totals, push_totals, totals_of};
 use conflict_findings::{
-    Ended, Ending, Ends, Followed, Sums, ended_by, finding_of, further_runs, running_in,
+    Ended, Ending, Ends, Followed, Running, Sums, ended_by, finding_of, further_runs, running_in,
 };
 use conflicts::{Behind, Explanation, Known, Site, explanation_at, sites};
 use rv32_exec::Image;
@@ -50,6 +52,19 @@ struct Findings {
     sums: Sums,
     /// What is kept of attempts meanwhile.
     followed: Followed,
+}
+
+/// A replay of a history, and what is gathered on the way.
+#[derive(Drop)]
+struct Gathering {
+    /// The machine at the place that is reached.
+    flat: Flat,
+    /// What is known of the history's accesses.
+    known: Known,
+    /// What is found of its violations.
+    findings: Findings,
+    /// What is kept of the attempts that ended.
+    ended: Vec<Ended>,
 }
 
 /// What is gathered of a history, in one replay.
@@ -155,37 +170,78 @@ fn gather(
     ensures running { IfOk result (λ all. all.ends.running.items ≡ running_after image.now cores entries.now) }
     ensures verdict { IfOk result (λ all. IsVerdict image.now cores entries.now (Legal (length entries.now) all.homefree)) }
 {
-    let Ok(mut flat) = Flat::new(alloc, image, cores) else {
-        return Err(AllocError);
-    };
-    let mut known = Known::new(alloc);
-    let mut findings = Findings::new(alloc);
-    let mut ended = Vec::new(alloc);
-    for (place, entry) in entries.iter().enumerate() {
-        let explained = explanation_at(alloc, image, cores, &flat, entries, &mut known, place)?;
-        findings.keep(
-            alloc,
-            image,
-            &flat,
-            entries,
-            sites,
-            &known.behind,
-            explained,
-        )?;
-        let followed = &findings.followed;
-        let found = ended_by(&flat, cores, entries, followed, place, *entry);
-        keep_ended(&mut ended, all, found)?;
-        findings.followed.note(entries)?;
-        let Ok(_) = flat.apply(*entry) else {
-            return Err(AllocError);
-        };
-    }
-    let running = running_in(alloc, &flat, cores, entries, &findings.followed)?;
+    let mut gathering = Gathering::new(alloc, image, cores)?;
+    let running = gathering.replay(alloc, all, image, cores, entries, sites)?;
+    let homefree = gathering.flat.homefree();
+    let Gathering {
+        findings,
+        ended,
+        ..
+    } = gathering;
     Ok(Gathered {
         findings,
         ends: Ends { ended, running },
-        homefree: flat.homefree(),
+        homefree,
     })
+}
+
+impl Gathering {
+    /// At the beginning of any history.
+    fn new(alloc: Global, image: &Image, cores: u32) -> Result<Gathering, AllocError>
+        ensures { IfOk result (λ gathering. (all : Bool) (entries : List Entry) (sites : List (Option Site)) → IsGathered all image.now cores entries sites 0 gathering) }
+    {
+        let Ok(flat) = Flat::new(alloc, image, cores) else {
+            return Err(AllocError);
+        };
+        let known = Known::new(alloc);
+        let findings = Findings::new(alloc);
+        let ended = Vec::new(alloc);
+        Ok(Gathering {
+            flat,
+            known,
+            findings,
+            ended,
+        })
+    }
+
+    /// Replays a history from its beginning to its end, and gathers on the way. It answers the attempts that go on.
+    fn replay(
+        &mut self,
+        alloc: Global,
+        all: bool,
+        image: &Image,
+        cores: u32,
+        entries: &[Entry],
+        sites: &[Option<Site>],
+    ) -> Result<Vec<Running>, AllocError>
+        requires { IsGathered all image.now cores entries.now sites.now 0 self.old }
+        ensures gathered { OnOk result (IsGathered all image.now cores entries.now sites.now (length entries.now) self.new) }
+        ensures running { IfOk result (λ running. running.items ≡ running_after image.now cores entries.now) }
+    {
+        for (place, entry) in entries.iter().enumerate() {
+            let known = &mut self.known;
+            let explained = explanation_at(alloc, image, cores, &self.flat, entries, known, place)?;
+            self.findings.keep(
+                alloc,
+                image,
+                &self.flat,
+                entries,
+                sites,
+                &self.known.behind,
+                explained,
+            )?;
+            let followed = &self.findings.followed;
+            let found = ended_by(&self.flat, cores, entries, followed, place, *entry);
+            keep_ended(&mut self.ended, all, found)?;
+            self.findings.followed.note(entries)?;
+            let Ok(_) = self.flat.apply(*entry) else {
+                return Err(AllocError);
+            };
+        }
+        let followed = &self.findings.followed;
+        let running = running_in(alloc, &self.flat, cores, entries, followed)?;
+        Ok(running)
+    }
 }
 
 impl Findings {

@@ -1,89 +1,22 @@
-use Rattle.std.proofs.Common.{◌≡◌, ◌+◌, ◌<◌, ◌∙◌, filter, length, map, take, refl, sym, ap, subst, arith}
-use Rattle.std.proofs.lemmas.Option.{slice_get-get_or}
+use Rattle.std.proofs.Common.{◌≡◌, ◌∙◌, length, take, refl, sym, ap, arith}
 use Rattle.std.proofs.lemmas.List.{take_all}
-use Rattle.spec_history.specs.FlatState.{FlatState}
 use Rattle.spec_history.specs.Replay.{replay}
-use Rattle.spec_history.specs.View.{state_in, cores_in}
-use Rattle.spec_history.proofs.Replay.Reaching.{no_entries, audited_more}
-use Rattle.conflicts.proofs.Explaining.{legal_in}
-use Rattle.conflict_findings.specs.Ends.{ended_before, running_below, running_from}
-use Rattle.conflict_findings.specs.Rollbacks.{rollback_at}
-use Rattle.conflict_findings.specs.Violated.{AreMarked}
-use Rattle.conflict_findings.proofs.Growing.{ended_more, none_ended}
-use Rattle.conflict_findings.proofs.Marking.{marked_first, marked_in}
-use Rattle.conflict_text.specs.Ends.{is_kept}
-use Rattle.conflict_text.specs.Why.{AreFound}
-use Rattle.conflict_text.proofs.Gathering.{more_found, none_found}
-use Rattle.conflict_text.proofs.Telling.{kept_more}
+use Rattle.spec_history.specs.View.{state_in}
 use Rattle.conflict_text.proofs.finding.gather.Goals as goal
 
-pub loop-place-init : goal.loop-place-init
-loop-place-init c =
-    let image = c.args.image.now in
-    let cores = c.args.cores in
-    let entries = c.args.entries.now in record {
-      image = c.in-Ok.ensures.image;
-      cores = c.in-Ok.ensures.cores;
-      replays = rw c.in-Ok.ensures.state (no_entries image cores);
-      marked = subst (λ (s : FlatState). AreMarked entries 0 s.cores) (sym c.in-Ok.ensures.state) (marked_first image entries 0);
-      found = none_found image cores entries c.args.sites.now _ _ c.new-findings.ensures.lines c.new-findings.ensures.sums;
-      ended = c.new-ended.ensures.items ∙ ap (filter (is_kept c.args.all)) (none_ended image cores entries);
-      known = c.new-known.ensures image.size entries;
-      followed = c.new-findings.ensures.followed entries;
-    }
-
-pub keep-requires-clause-summed : goal.keep-requires-clause-summed
-keep-requires-clause-summed c = (map (rollback_at c.args.image.now c.args.entries.now c.args.sites.now) c.loop-place.invariant.found.found, c.loop-place.invariant.found.summed)
-
-pub loop-place-preserved : goal.loop-place-preserved
-loop-place-preserved c =
-    let was = c.loop-place.invariant in
-    let same = c.in-Ok-apply.ensures.same in
-    let applied = c.in-Ok-apply.ensures.answer in
-    let image = c.args.image.now in
-    let cores = c.args.cores in
-    let entries = c.args.entries.now in
-    let place = c.loop-place.place in
-    let flat = c.loop-place.flat in
-    let below : place < length entries = omega (arith, c.loop-place-test.true) in
-    let there = slice_get-get_or entries place _ below in
-    let found = c.in_ok-explained.ensures in
-    let legal = legal_in image flat.image cores (cores_in flat) (state_in flat) _ was.image was.cores applied.legal in
-    let shown = found.found _ there legal in record {
-      image = same.image ∙ was.image;
-      cores = same.cores ∙ was.cores;
-      replays = audited_more image cores entries place _ flat c.apply.new.self was.image was.cores was.replays below applied;
-      marked = marked_in flat c.apply.new.self entries place _ there applied was.marked;
-      found = more_found image cores (state_in flat) entries c.args.sites.now place c.in_ok-explained.explained _ _ _ _ was.replays shown found.explained was.found
-          c.in_ok-keep.ensures.told c.in_ok-keep.ensures.summed;
-      ended = kept_more c.args.all c.ended_by-found.result (ended_before image cores entries place) _ c.loop-place.ended.items _
-          (ended_more image flat.image cores entries place (state_in flat) _ _ _ _ was.image was.replays there c.ended_by-found.ensures refl refl) was.ended c.in_ok-keep_ended.ensures;
-      known = found.known;
-      followed = record {
-        is = c.in_ok-note.ensures.known;
-        noted = let noted = c.in_ok-keep.ensures.noted ∙ was.followed.noted in c.in_ok-note.ensures.further (omega (arith, below, noted)) ∙ ap (λ n. n + 1) noted;
-      };
-    }
-
-pub running_in-requires-clause-marked : goal.running_in-requires-clause-marked
-running_in-requires-clause-marked c =
-    let entries = c.args.entries.now in
-    let last : c.loop-place.place ≡ length entries = omega (arith, c.loop-place-test.false, c.loop-place.auto.place-end) in
-    subst (λ n. AreMarked entries n (state_in c.loop-place.flat).cores) last c.loop-place.invariant.marked
+pub replay-requires : goal.replay-requires
+replay-requires c = c.in_ok-gathering.ensures c.args.all c.args.entries.now c.args.sites.now
 
 pub returns : goal.returns
 returns c =
-    let was = c.loop-place.invariant in
     let image = c.args.image.now in
     let cores = c.args.cores in
     let entries = c.args.entries.now in
-    let place = c.loop-place.place in
-    let flat = c.loop-place.flat in
-    let last : place ≡ length entries = omega (arith, c.loop-place-test.false, c.loop-place.auto.place-end) in
-    let whole : take place entries ≡ entries = take_all place entries (omega (arith, last)) in
-    let replays = sym (ap (replay image cores) whole) ∙ was.replays in record {
-      found = subst (λ n. AreFound image cores entries c.args.sites.now n c.loop-place.findings.lines.items c.loop-place.findings.sums) last was.found;
-      ended = was.ended ∙ ap (λ n. filter (is_kept c.args.all) (ended_before image cores entries n)) last;
-      running = c.in_ok-running.ensures ∙ (ap (λ i. running_below i entries (state_in flat) cores) was.image ∙ sym (ap (running_from image cores entries) replays));
-      verdict = (state_in flat, replays, c.homefree.ensures, refl);
+    let all = c.in_ok-running.ensures.gathered in
+    let whole : take (length entries) entries ≡ entries = take_all (length entries) entries (omega arith) in
+    let replays = sym (ap (replay image cores) whole) ∙ all.replays in record {
+      found = all.found;
+      ended = all.ended;
+      running = c.in_ok-running.ensures.running;
+      verdict = (state_in c.replay.new.self.flat, replays, c.homefree-homefree.ensures, refl);
     }
