@@ -1,5 +1,5 @@
-//! The lock: what no clause says, which is that the calls succeed, how many tickets there are, and the printed names.
-ghost use Rattle.std.specs.Prelude.{◌≡◌, Some, IfOk};
+//! The lock: what no clause says, which is that the calls succeed, at which ticket it starts, how many there are, and the printed names.
+ghost use Rattle.std.specs.Prelude.{◌≡◌, ◌≤◌, ◌^◌, Some, IfOk};
 ghost use Rattle.ticket_lock.specs.Past.{GrowsBy};
 
 use crate::words::prints;
@@ -139,6 +139,29 @@ fn no_ticket_is_drawn_past_the_last(rt: HostRuntime) -> Result<(), Fail> {
     has_turns(&rt, rt.alloc(), 1 << 63, 0)?;
     has_turns(&rt, rt.alloc(), (1 << 63) - 1, 1)?;
     has_turns(&rt, rt.alloc(), (1 << 63) - 3, 3)
+}
+
+// The tickets that a lock starts at, where its first is `first`.
+fn starts_at(rt: &HostRuntime, first: u64) -> Result<(u64, u64), NoMemory>
+    requires { first ≤ 2 ^ 63 }
+{
+    let list = List {
+        entries: Vec::new(rt.alloc()),
+    };
+    let (lock, _pass) = TicketLock::open_at(rt.alloc(), list, 1, first)?;
+    Ok(lock.tickets())
+}
+
+#[test]
+fn both_words_start_at_the_first_ticket(rt: HostRuntime) -> Result<(), Fail> {
+    let list = List {
+        entries: Vec::new(rt.alloc()),
+    };
+    let (lock, _pass) = TicketLock::open(rt.alloc(), list, 1)?;
+    assert_eq!(rt; lock.tickets(), (0, 0));
+    assert_eq!(rt; starts_at(&rt, 7)?, (7, 7));
+    assert_eq!(rt; starts_at(&rt, 1 << 63)?, (1 << 63, 1 << 63));
+    Ok(())
 }
 
 #[test]

@@ -13,8 +13,6 @@ mod pass;
 mod places;
 mod plays;
 mod rule;
-#[cfg(test)]
-mod tests;
 mod ticket;
 
 pub use errors::{NoMemory, Spent};

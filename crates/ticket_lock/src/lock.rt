@@ -9,7 +9,7 @@ use crate::kept::Kept;
 use crate::pass::Pass;
 use crate::places::Rooms;
 use crate::plays::{Both, Cut, Halves, Last, Recall};
-use crate::rule::{Board, HOME, SERVING, Slot, Start};
+use crate::rule::{Board, HOME, NEXT, SERVING, Slot, Start};
 use crate::ticket::{draw, wait};
 use atomic_table::Table;
 use std::alloc::{Allocator, Global};
@@ -84,6 +84,13 @@ impl<T: Kept, A: Allocator> TicketLock<T, A> {
             )),
             Err(_) => Err(NoMemory),
         }
+    }
+
+    /// The ticket that is drawn next, and the one that is served: each as it was when it was looked at, which other threads may have
+    /// changed since.
+    pub fn tickets(&self) -> (u64, u64) {
+        let words = &self.table.shared;
+        (words.peek(NEXT), words.peek(SERVING))
     }
 
     /// Two passes in place of one: of its numbers below `at`, and of those from `at` on. Both have seen what it has seen.
