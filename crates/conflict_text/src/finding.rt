@@ -54,6 +54,15 @@ struct Findings {
     followed: Followed,
 }
 
+/// A history, and what stands at its entries.
+#[derive(Drop)]
+struct Sited<'h> {
+    image: &'h Image,
+    entries: &'h [Entry],
+    /// The sites of its entries.
+    sites: &'h [Option<Site>],
+}
+
 /// A replay of a history, and what is gathered on the way.
 #[derive(Drop)]
 struct Gathering {
@@ -171,7 +180,12 @@ fn gather(
     ensures verdict { IfOk result (λ all. IsVerdict image.now cores entries.now (Legal (length entries.now) all.homefree)) }
 {
     let mut gathering = Gathering::new(alloc, image, cores)?;
-    let running = gathering.replay(alloc, all, image, cores, entries, sites)?;
+    let sited = Sited {
+        image,
+        entries,
+        sites,
+    };
+    let running = gathering.replay(alloc, all, &sited, cores)?;
     let homefree = gathering.flat.homefree();
     let Gathering {
         findings,
@@ -209,27 +223,19 @@ impl Gathering {
         &mut self,
         alloc: Global,
         all: bool,
-        image: &Image,
+        sited: &Sited<'_>,
         cores: u32,
-        entries: &[Entry],
-        sites: &[Option<Site>],
     ) -> Result<Vec<Running>, AllocError>
-        requires { IsGathered all image.now cores entries.now sites.now 0 self.old }
-        ensures gathered { OnOk result (IsGathered all image.now cores entries.now sites.now (length entries.now) self.new) }
-        ensures running { IfOk result (λ running. running.items ≡ running_after image.now cores entries.now) }
+        requires { IsGathered all sited.now.image.now cores sited.now.entries.now sited.now.sites.now 0 self.old }
+        ensures gathered { OnOk result (IsGathered all sited.now.image.now cores sited.now.entries.now sited.now.sites.now (length sited.now.entries.now) self.new) }
+        ensures running { IfOk result (λ running. running.items ≡ running_after sited.now.image.now cores sited.now.entries.now) }
     {
+        let Sited { image, entries, .. } = sited;
         for (place, entry) in entries.iter().enumerate() {
             let known = &mut self.known;
             let explained = explanation_at(alloc, image, cores, &self.flat, entries, known, place)?;
-            self.findings.keep(
-                alloc,
-                image,
-                &self.flat,
-                entries,
-                sites,
-                &self.known.behind,
-                explained,
-            )?;
+            self.findings
+                .keep(alloc, sited, &self.flat, &self.known.behind, explained)?;
             let followed = &self.findings.followed;
             let found = ended_by(&self.flat, cores, entries, followed, place, *entry);
             keep_ended(&mut self.ended, all, found)?;
@@ -262,27 +268,30 @@ impl Findings {
     fn keep(
         &mut self,
         alloc: Global,
-        image: &Image,
+        sited: &Sited<'_>,
         flat: &Flat,
-        entries: &[Entry],
-        sites: &[Option<Site>],
         behind: &Behind,
         explained: Option<Explanation>,
     ) -> Result<(), AllocError>
-        requires image { flat.now.image ≡ image.now }
-        requires known { IsBehind image.now.size entries.now behind.now }
-        requires followed { IsFollowed entries.now self.old.followed }
+        requires image { flat.now.image ≡ sited.now.image.now }
+        requires known { IsBehind sited.now.image.now.size sited.now.entries.now behind.now }
+        requires followed { IsFollowed sited.now.entries.now self.old.followed }
         requires noted { IfSome explained (λ e. self.old.followed.numbers.place ≡ e.place) }
         requires summed { (rollbacks : List Rollback) × AreAllSums rollbacks self.old.sums }
-        ensures told { OnOk result (self.new.lines.items ≡ self.old.lines.items ++ spec.lines_of image.now (state_in flat.now) entries.now sites.now explained) }
+        ensures told { OnOk result (self.new.lines.items ≡ self.old.lines.items ++ spec.lines_of sited.now.image.now (state_in flat.now) sited.now.entries.now sited.now.sites.now explained) }
         ensures summed { OnOk result ((rollbacks : List Rollback) → AreAllSums rollbacks self.old.sums
-            → AreAllSums (rollbacks ++ option_to_list (option_map (rollback_at image.now entries.now sites.now) explained)) self.new.sums) }
-        ensures followed { OnOk result (IsFollowed entries.now self.new.followed) }
+            → AreAllSums (rollbacks ++ option_to_list (option_map (rollback_at sited.now.image.now sited.now.entries.now sited.now.sites.now) explained)) self.new.sums) }
+        ensures followed { OnOk result (IsFollowed sited.now.entries.now self.new.followed) }
         ensures noted { OnOk result (self.new.followed.numbers.place ≡ self.old.followed.numbers.place) }
     {
         let Some(e) = explained else {
             return Ok(());
         };
+        let Sited {
+            image,
+            entries,
+            sites,
+        } = sited;
         let further = further_runs(alloc, image, flat, entries, sites, behind, e)?;
         let found = finding_of(image, entries, sites, &mut self.followed, &e);
         push_violation(&mut self.lines, &found, further.as_slice())?;

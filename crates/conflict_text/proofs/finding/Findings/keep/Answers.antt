@@ -11,10 +11,10 @@ add-requires c = c.requires.summed
 
 pub returns-in_default-clause-summed : goal.returns-in_default-clause-summed
 returns-in_default-clause-summed c rs was =
-    subst (λ (e : Option Explanation). AreAllSums (rs ++ option_to_list (option_map (rollback_at c.args.image.now c.args.entries.now c.args.sites.now) e)) c.args.self.now.sums) (sym c.in_default.is)
+    subst (λ (e : Option Explanation). AreAllSums (rs ++ option_to_list (option_map (rollback_at c.args.sited.now.image.now c.args.sited.now.entries.now c.args.sited.now.sites.now) e)) c.args.self.now.sums) (sym c.in_default.is)
     (subst (λ (xs : List Rollback). AreAllSums xs c.args.self.now.sums) (sym (append-nil rs)) was)
 
 pub returns-clause-summed : goal.returns-clause-summed
 returns-clause-summed c rs was =
-    subst (λ (e : Option Explanation). AreAllSums (rs ++ option_to_list (option_map (rollback_at c.args.image.now c.args.entries.now c.args.sites.now) e)) c.add.new.self) (sym c.in-Some.is)
+    subst (λ (e : Option Explanation). AreAllSums (rs ++ option_to_list (option_map (rollback_at c.args.sited.now.image.now c.args.sited.now.entries.now c.args.sited.now.sites.now) e)) c.add.new.self) (sym c.in-Some.is)
     (subst (λ (r : Rollback). AreAllSums (rs ++ r ∷ []) c.add.new.self) (c.rollback-rollback.ensures ∙ ap rollback_of c.finding_of-found.ensures.found) (c.in_ok-add.ensures rs was))

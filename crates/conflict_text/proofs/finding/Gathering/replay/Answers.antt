@@ -16,16 +16,16 @@ use Rattle.conflict_text.proofs.Telling.{kept_more}
 use Rattle.conflict_text.proofs.finding.Gathering.replay.Goals as goal
 
 pub keep-requires-clause-summed : goal.keep-requires-clause-summed
-keep-requires-clause-summed c = (map (rollback_at c.args.image.now c.args.entries.now c.args.sites.now) c.loop-place.invariant.found.found, c.loop-place.invariant.found.summed)
+keep-requires-clause-summed c = (map (rollback_at c.args.sited.now.image.now c.args.sited.now.entries.now c.args.sited.now.sites.now) c.loop-place.invariant.found.found, c.loop-place.invariant.found.summed)
 
 pub loop-place-preserved : goal.loop-place-preserved
 loop-place-preserved c =
     let was = c.loop-place.invariant in
     let same = c.in-Ok.ensures.same in
     let applied = c.in-Ok.ensures.answer in
-    let image = c.args.image.now in
+    let image = c.args.sited.now.image.now in
     let cores = c.args.cores in
-    let entries = c.args.entries.now in
+    let entries = c.args.sited.now.entries.now in
     let place = c.loop-place.place in
     let flat = c.loop-place.self.flat in
     let below : place < length entries = omega (arith, c.loop-place-test.true) in
@@ -37,7 +37,7 @@ loop-place-preserved c =
       cores = same.cores ∙ was.cores;
       replays = audited_more image cores entries place _ flat c.apply.new.self was.image was.cores was.replays below applied;
       marked = marked_in flat c.apply.new.self entries place _ there applied was.marked;
-      found = more_found image cores (state_in flat) entries c.args.sites.now place c.in_ok-explained.explained _ _ _ _ was.replays shown found.explained was.found
+      found = more_found image cores (state_in flat) entries c.args.sited.now.sites.now place c.in_ok-explained.explained _ _ _ _ was.replays shown found.explained was.found
           c.in_ok-keep.ensures.told c.in_ok-keep.ensures.summed;
       ended = kept_more c.args.all c.ended_by-found.result (ended_before image cores entries place) _ c.loop-place.self.ended.items _
           (ended_more image flat.image cores entries place (state_in flat) _ _ _ _ was.image was.replays there c.ended_by-found.ensures refl refl) was.ended c.in_ok-keep_ended.ensures;
@@ -50,21 +50,21 @@ loop-place-preserved c =
 
 pub running_in-requires-clause-marked : goal.running_in-requires-clause-marked
 running_in-requires-clause-marked c =
-    let entries = c.args.entries.now in
+    let entries = c.args.sited.now.entries.now in
     let last : c.loop-place.place ≡ length entries = omega (arith, c.loop-place-test.false, c.loop-place.auto.place-end) in
     subst (λ n. AreMarked entries n (state_in c.loop-place.self.flat).cores) last c.loop-place.invariant.marked
 
 pub returns-clause-gathered : goal.returns-clause-gathered
 returns-clause-gathered c =
-    let last : c.loop-place.place ≡ length c.args.entries.now = omega (arith, c.loop-place-test.false, c.loop-place.auto.place-end) in
-    subst (λ n. IsGathered c.args.all c.args.image.now c.args.cores c.args.entries.now c.args.sites.now n c.loop-place.self) last c.loop-place.invariant
+    let last : c.loop-place.place ≡ length c.args.sited.now.entries.now = omega (arith, c.loop-place-test.false, c.loop-place.auto.place-end) in
+    subst (λ n. IsGathered c.args.all c.args.sited.now.image.now c.args.cores c.args.sited.now.entries.now c.args.sited.now.sites.now n c.loop-place.self) last c.loop-place.invariant
 
 pub returns-clause-running : goal.returns-clause-running
 returns-clause-running c =
     let was = c.loop-place.invariant in
-    let image = c.args.image.now in
+    let image = c.args.sited.now.image.now in
     let cores = c.args.cores in
-    let entries = c.args.entries.now in
+    let entries = c.args.sited.now.entries.now in
     let place = c.loop-place.place in
     let flat = c.loop-place.self.flat in
     let last : place ≡ length entries = omega (arith, c.loop-place-test.false, c.loop-place.auto.place-end) in
