@@ -23,6 +23,18 @@ pub struct Waiting {
     pub held: Option<Terms>,
 }
 
+/// What the runs over one store have in common.
+#[derive(Drop)]
+struct Runs<'s> {
+    /// What the store is called.
+    store: &'s [u8],
+    image: &'s Image,
+    /// How many entries a history has room for.
+    room: u32,
+    /// What they are compared with.
+    base: Base,
+}
+
 /// Adds a line for each of 1, 2, 4 and 8 cores that are fewer than these, and one for these, on these terms; and a line `held` below
 /// each, where there are such. The cores are at least 1, and the room is 16 to `homefree::MOST_ROOM` entries.
 ///
@@ -45,41 +57,41 @@ pub fn push_lines<S: PricedStore>(
     let order = order_of::<S>(alloc, image, waiting.terms.costs)?;
     let base = Base { first, order };
     push_line(text, false, waiting.told, store, 1, &base, &base.first)?;
-    push_held::<S>(alloc, text, store, image, room, waiting, &base, 1)?;
-    let more = more_counts(alloc, cores)?;
-    push_each::<S>(
-        alloc,
-        text,
+    let runs = Runs {
         store,
         image,
         room,
-        waiting,
-        &base,
-        more.as_slice(),
-    )
+        base,
+    };
+    push_held::<S>(alloc, text, &runs, waiting, 1)?;
+    let more = more_counts(alloc, cores)?;
+    push_each::<S>(alloc, text, &runs, waiting, more.as_slice())
 }
 
 /// Adds the lines of each of these numbers of cores, beside that on one core.
 fn push_each<S: PricedStore>(
     alloc: Global,
     text: &mut Vec<u8>,
-    store: &[u8],
-    image: &Image,
-    room: u32,
+    runs: &Runs<'_>,
     waiting: &Waiting,
-    base: &Base,
     counts: &[u32],
 ) -> Result<(), AllocError>
-    requires counts { All (λ k. IsCoreCount image.now k) counts.now }
-    requires least { 16 ≤ room }
-    requires most { room ≤ most_room }
-    requires first { IfSome base.now.first HasFewSteps }
-    ensures { OnOk result (spec.AddEach S.starts S.makes S.view S.waits S.prices S.keeps waiting.now image.now room store.now base.now counts.now text.old.items text.new.items) }
+    requires counts { All (λ k. IsCoreCount runs.now.image.now k) counts.now }
+    requires least { 16 ≤ runs.now.room }
+    requires most { runs.now.room ≤ most_room }
+    requires first { IfSome runs.now.base.first HasFewSteps }
+    ensures { OnOk result (spec.AddEach S.starts S.makes S.view S.waits S.prices S.keeps waiting.now runs.now.image.now runs.now.room runs.now.store.now runs.now.base counts.now text.old.items text.new.items) }
 {
+    let Runs {
+        store,
+        image,
+        room,
+        base,
+    } = runs;
     for cores in counts {
-        let measured = measure::<S>(alloc, image, *cores, room, &waiting.terms)?;
+        let measured = measure::<S>(alloc, image, *cores, *room, &waiting.terms)?;
         push_line(text, false, waiting.told, store, *cores, base, &measured)?;
-        push_held::<S>(alloc, text, store, image, room, waiting, base, *cores)?;
+        push_held::<S>(alloc, text, runs, waiting, *cores)?;
     }
     Ok(())
 }
@@ -88,22 +100,25 @@ fn push_each<S: PricedStore>(
 fn push_held<S: PricedStore>(
     alloc: Global,
     text: &mut Vec<u8>,
-    store: &[u8],
-    image: &Image,
-    room: u32,
+    runs: &Runs<'_>,
     waiting: &Waiting,
-    base: &Base,
     cores: u32,
 ) -> Result<(), AllocError>
-    requires cores { IsCoreCount image.now cores }
-    requires least { 16 ≤ room }
-    requires most { room ≤ most_room }
-    requires first { IfSome base.now.first HasFewSteps }
-    ensures { OnOk result (spec.AddHeld S.starts S.makes S.view S.waits S.prices S.keeps waiting.now.held image.now room store.now base.now cores text.old.items text.new.items) }
+    requires cores { IsCoreCount runs.now.image.now cores }
+    requires least { 16 ≤ runs.now.room }
+    requires most { runs.now.room ≤ most_room }
+    requires first { IfSome runs.now.base.first HasFewSteps }
+    ensures { OnOk result (spec.AddHeld S.starts S.makes S.view S.waits S.prices S.keeps waiting.now.held runs.now.image.now runs.now.room runs.now.store.now runs.now.base cores text.old.items text.new.items) }
 {
+    let Runs {
+        store,
+        image,
+        room,
+        base,
+    } = runs;
     match &waiting.held {
         Some(terms) => {
-            let measured = measure::<S>(alloc, image, cores, room, terms)?;
+            let measured = measure::<S>(alloc, image, cores, *room, terms)?;
             push_line(text, true, true, store, cores, base, &measured)
         }
         None => Ok(()),
