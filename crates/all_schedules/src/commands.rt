@@ -9,7 +9,7 @@ ghost use Rattle.all_schedules.specs.Work as spec;
 
 use crate::addresses::addresses_of;
 use crate::all::do_all;
-use crate::paced::{Pace, do_paced};
+use crate::paced::{PaceAsked, do_paced};
 use crate::replay::do_replay;
 use crate::settings::Settings;
 use crate::words::{Turns, asked_of};
@@ -120,9 +120,12 @@ fn answer<
             do_all::<S, R, W, E>(alloc, cores, settings, turns, reader, writer, errors)
         }
         Turns::Paced { pace, cores } => {
-            pace_waiting::<S, A, R, W, E>(
-                alloc, waits, pace, cores, settings, reader, writer, errors,
-            )
+            let asked = PaceAsked {
+                pace,
+                cores,
+                settings,
+            };
+            pace_waiting::<S, A, R, W, E>(alloc, waits, asked, reader, writer, errors)
         }
         Turns::Threaded { cores } => {
             let asked = settings.asked;
@@ -140,27 +143,23 @@ fn answer<
 fn pace_waiting<S: PricedStore, A: AsStr, R: Read, W: Write, E: Write>(
     alloc: Global,
     waits: &[A],
-    pace: Pace,
-    cores: u32,
-    settings: Settings,
+    asked: PaceAsked,
     reader: &mut R,
     writer: &mut W,
     errors: &mut E,
 ) -> u8
-    requires cores { 1 ≤ cores }
-    requires least { 16 ≤ settings.room }
-    requires most { settings.room ≤ 1048576 }
+    requires cores { 1 ≤ asked.cores }
+    requires least { 16 ≤ asked.settings.room }
+    requires most { asked.settings.room ≤ 1048576 }
     ensures outcome { ForText (R.remaining reader.old) (λ text.
-        Conclusion (IsPacedOutcome S.starts S.makes S.view S.waits S.prices S.keeps (addresses_of (map A.text waits.now)) pace cores settings text (W.contents writer.old) (W.contents writer.new)) (E.contents errors.old) (E.contents errors.new) result) }
+        Conclusion (IsPacedOutcome S.starts S.makes S.view S.waits S.prices S.keeps (addresses_of (map A.text waits.now)) asked.pace asked.cores asked.settings text (W.contents writer.old) (W.contents writer.new)) (E.contents errors.old) (E.contents errors.new) result) }
     ensures taken { TakesAtMost (R.remaining reader.old) (R.remaining reader.new) (longest_image_text + 1) }
 {
     match addresses_of(alloc, waits) {
         Ok(addresses) => do_paced::<S, R, W, E>(
             alloc,
             addresses.as_slice(),
-            pace,
-            cores,
-            settings,
+            asked,
             reader,
             writer,
             errors,

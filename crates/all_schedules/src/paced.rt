@@ -40,6 +40,16 @@ pub enum Pace {
     Seeded(u64),
 }
 
+/// What a run by its own pace is asked for.
+#[derive(Clone, Copy)]
+pub struct PaceAsked {
+    pub pace: Pace,
+    /// At least 1.
+    pub cores: u32,
+    /// Their room is 16 to 1,048,576 entries.
+    pub settings: Settings,
+}
+
 /// Runs the image that the reader gives by this pace, at even speed with loads at these addresses of code that wait, over a fresh store, and
 /// writes the line of its turns, and below it what `do_replay` writes of them. The cores are at least 1, and the room is 16 to 1,048,576
 /// entries.
@@ -50,40 +60,41 @@ pub enum Pace {
 pub fn do_paced<S: PricedStore, R: Read, W: Write, E: Write>(
     alloc: Global,
     addresses: &[u32],
-    pace: Pace,
-    cores: u32,
-    settings: Settings,
+    asked: PaceAsked,
     reader: &mut R,
     writer: &mut W,
     errors: &mut E,
 ) -> u8
-    requires cores { 1 ≤ cores }
-    requires least { 16 ≤ settings.room }
-    requires most { settings.room ≤ 1048576 }
+    requires cores { 1 ≤ asked.cores }
+    requires least { 16 ≤ asked.settings.room }
+    requires most { asked.settings.room ≤ 1048576 }
     ensures outcome { ForText (R.remaining reader.old) (λ text.
-        Conclusion (spec.IsPacedOutcome S.starts S.makes S.view S.waits S.prices S.keeps addresses.now pace cores settings text (W.contents writer.old) (W.contents writer.new)) (E.contents errors.old) (E.contents errors.new) result) }
+        Conclusion (spec.IsPacedOutcome S.starts S.makes S.view S.waits S.prices S.keeps addresses.now asked.pace asked.cores asked.settings text (W.contents writer.old) (W.contents writer.new)) (E.contents errors.old) (E.contents errors.new) result) }
     ensures taken { TakesAtMost (R.remaining reader.old) (R.remaining reader.new) (longest_image_text + 1) }
 {
-    paced_input::<S, R, W>(alloc, addresses, pace, cores, settings, reader, writer).conclude(errors)
+    paced_input::<S, R, W>(alloc, addresses, asked, reader, writer).conclude(errors)
 }
 
 /// Runs an input, all but its line on the error stream.
 fn paced_input<S: PricedStore, R: Read, W: Write>(
     alloc: Global,
     addresses: &[u32],
-    pace: Pace,
-    cores: u32,
-    settings: Settings,
+    asked: PaceAsked,
     reader: &mut R,
     writer: &mut W,
 ) -> Outcome
-    requires cores { 1 ≤ cores }
-    requires least { 16 ≤ settings.room }
-    requires most { settings.room ≤ 1048576 }
+    requires cores { 1 ≤ asked.cores }
+    requires least { 16 ≤ asked.settings.room }
+    requires most { asked.settings.room ≤ 1048576 }
     ensures outcome { ForText (R.remaining reader.old) (λ text.
-        spec.IsPacedOutcome S.starts S.makes S.view S.waits S.prices S.keeps addresses.now pace cores settings text (W.contents writer.old) (W.contents writer.new) result) }
+        spec.IsPacedOutcome S.starts S.makes S.view S.waits S.prices S.keeps addresses.now asked.pace asked.cores asked.settings text (W.contents writer.old) (W.contents writer.new) result) }
     ensures taken { TakesAtMost (R.remaining reader.old) (R.remaining reader.new) (longest_image_text + 1) }
 {
+    let PaceAsked {
+        pace,
+        cores,
+        settings,
+    } = asked;
     match read_image(alloc, reader) {
         Ok(image) => paced_image::<S, W>(alloc, addresses, pace, image, cores, settings, writer),
         Err(fault) => Outcome::of_fault(fault),

@@ -18,8 +18,8 @@ returns-in-Ok-clause-outcome g c =
     let old = g.W.Write.contents c.args.writer.now in
     let new = g.W.Write.contents c.paced_image.new.writer in
     for_text (g.R.Read.remaining c.args.reader.now) (λ text. image_text text ≡ Ok c.in-Ok.image)
-    (λ text. IsPacedOutcome starts makes view waits prices keeps c.args.addresses.now c.args.pace c.args.cores c.args.settings text old new c.paced_image.result)
-    (λ text said. paced_of_image starts makes view waits prices keeps c.args.addresses.now c.args.pace c.args.cores c.args.settings text c.in-Ok.image old new said c.paced_image.result c.paced_image.ensures) c.in-Ok.ensures.text
+    (λ text. IsPacedOutcome starts makes view waits prices keeps c.args.addresses.now c.args.asked.pace c.args.asked.cores c.args.asked.settings text old new c.paced_image.result)
+    (λ text said. paced_of_image starts makes view waits prices keeps c.args.addresses.now c.args.asked.pace c.args.asked.cores c.args.asked.settings text c.in-Ok.image old new said c.paced_image.result c.paced_image.ensures) c.in-Ok.ensures.text
 
 pub returns-in-Err-clause-outcome : goal.returns-in-Err-clause-outcome
 returns-in-Err-clause-outcome g c =
@@ -31,6 +31,6 @@ returns-in-Err-clause-outcome g c =
     let keeps = g.S.PricedStore.keeps in
     let old = g.W.Write.contents c.args.writer.now in
     for_text (g.R.Read.remaining c.args.reader.now) (λ text. IsReadFaultOf c.in-Err.fault.kind c.in-Err.fault (image_text text))
-    (λ text. IsPacedOutcome starts makes view waits prices keeps c.args.addresses.now c.args.pace c.args.cores c.args.settings text old old c.of_fault.result)
-    (λ text is. subst (λ (o : Outcome). IsPacedOutcome starts makes view waits prices keeps c.args.addresses.now c.args.pace c.args.cores c.args.settings text old old o) (sym c.of_fault.ensures)
-    (paced_refused starts makes view waits prices keeps c.args.addresses.now c.args.pace c.args.cores c.args.settings text old c.in-Err.fault.line c.in-Err.fault.kind is)) c.in-Err.ensures.text
+    (λ text. IsPacedOutcome starts makes view waits prices keeps c.args.addresses.now c.args.asked.pace c.args.asked.cores c.args.asked.settings text old old c.of_fault.result)
+    (λ text is. subst (λ (o : Outcome). IsPacedOutcome starts makes view waits prices keeps c.args.addresses.now c.args.asked.pace c.args.asked.cores c.args.asked.settings text old old o) (sym c.of_fault.ensures)
+    (paced_refused starts makes view waits prices keeps c.args.addresses.now c.args.asked.pace c.args.asked.cores c.args.asked.settings text old c.in-Err.fault.line c.in-Err.fault.kind is)) c.in-Err.ensures.text
