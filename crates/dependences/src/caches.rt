@@ -48,9 +48,9 @@ pub fn conflict_over_caches(
     if cores < 2 {
         return Ok(None);
     }
-    let mut memory = Vec::from_slice(alloc, image.bytes()).map_err(|_| NoMemory)?;
-    let mut alone = Vec::from_slice(alloc, image.bytes()).map_err(|_| NoMemory)?;
-    let mut writers = vec![in alloc; 0; size].map_err(|_| NoMemory)?;
+    let mut memory = Vec::from_slice(alloc, image.bytes())?;
+    let mut alone = Vec::from_slice(alloc, image.bytes())?;
+    let mut writers = vec![in alloc; 0; size]?;
     let ran = run_all(image, alone.as_mut_slice(), writers.as_mut_slice()).epochs;
     let mut lines = Lines::none(alloc, image)?;
     let mut touches = Touches::none(alloc, image)?;
@@ -65,7 +65,7 @@ pub fn conflict_over_caches(
     if found.is_some() {
         return Ok(found);
     }
-    let mut memory = Vec::from_slice(alloc, image.bytes()).map_err(|_| NoMemory)?;
+    let mut memory = Vec::from_slice(alloc, image.bytes())?;
     let memory = memory.as_mut_slice();
     Ok(conflict_past_end(
         image,

@@ -26,8 +26,8 @@ pub fn conflicts_over_bytes(alloc: Global, image: &Image, cores: u32) -> Result<
     if cores < 2 {
         return Ok(false);
     }
-    let mut memory = Vec::from_slice(alloc, image.bytes()).map_err(|_| NoMemory)?;
-    let mut writers = vec![in alloc; 0; size].map_err(|_| NoMemory)?;
+    let mut memory = Vec::from_slice(alloc, image.bytes())?;
+    let mut writers = vec![in alloc; 0; size]?;
     let ran = run_all(image, memory.as_mut_slice(), writers.as_mut_slice());
     if is_near(cores, ran.nearest) {
         return Ok(true);
@@ -63,9 +63,9 @@ fn conflicts_past_end(
     ensures found { IfOk result (λ found. found ≡ true → ConflictInOrder image.now cores) }
     ensures none { IfOk result (λ found. found ≡ false → ConflictInOrder image.now cores → ⊥) }
 {
-    let mut memory = Vec::from_slice(alloc, image.bytes()).map_err(|_| NoMemory)?;
-    let mut alone = Vec::from_slice(alloc, image.bytes()).map_err(|_| NoMemory)?;
-    let mut marks = Vec::from_slice(alloc, writers).map_err(|_| NoMemory)?;
+    let mut memory = Vec::from_slice(alloc, image.bytes())?;
+    let mut alone = Vec::from_slice(alloc, image.bytes())?;
+    let mut marks = Vec::from_slice(alloc, writers)?;
     let memory = memory.as_mut_slice();
     Ok(search(
         image,

@@ -38,7 +38,7 @@ pub struct Dependence {
 pub fn dependences_in_order(alloc: Global, image: &Image) -> Result<Vec<Dependence>, NoMemory>
     ensures { IfOk result (λ found. AreDependences image.now found.items) }
 {
-    let mut memory = Vec::from_slice(alloc, image.bytes()).map_err(|_| NoMemory)?;
+    let mut memory = Vec::from_slice(alloc, image.bytes())?;
     let mut stores = LastStores::none(alloc, image.size() as usize)?;
     let mut found = Vec::new(alloc);
     run_all(image, memory.as_mut_slice(), &mut stores, &mut found)?;
@@ -166,9 +166,9 @@ impl LastStores {
         ensures long { IfOk result (λ s. spec.AreLong s size) }
         ensures none { IfOk result (λ s. (a : ℕ) → slice_index s.writers a ≡ 0) }
     {
-        let writers = vec![in alloc; 0; size].map_err(|_| NoMemory)?;
-        let steps = vec![in alloc; 0; size].map_err(|_| NoMemory)?;
-        let pcs = vec![in alloc; 0; size].map_err(|_| NoMemory)?;
+        let writers = vec![in alloc; 0; size]?;
+        let steps = vec![in alloc; 0; size]?;
+        let pcs = vec![in alloc; 0; size]?;
         Ok(LastStores {
             writers,
             steps,

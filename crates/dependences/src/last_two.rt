@@ -39,8 +39,8 @@ impl LastTwo {
         ensures last { IfOk result (λ s. (line : ℕ) → slice_index s.last line ≡ 0) }
     {
         let count = line_of(image, image.size()) as usize;
-        let last = vec![in alloc; 0; count].map_err(|_| NoMemory)?;
-        let before = vec![in alloc; 0; count].map_err(|_| NoMemory)?;
+        let last = vec![in alloc; 0; count]?;
+        let before = vec![in alloc; 0; count]?;
         Ok(LastTwo { last, before })
     }
 

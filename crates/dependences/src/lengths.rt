@@ -16,7 +16,7 @@ use std::alloc::Global;
 pub fn lengths_in_order(alloc: Global, image: &Image) -> Result<Vec<u64>, NoMemory>
     ensures { IfOk result (λ lengths. spec.AreLengths image.now lengths.items) }
 {
-    let mut memory = Vec::from_slice(alloc, image.bytes()).map_err(|_| NoMemory)?;
+    let mut memory = Vec::from_slice(alloc, image.bytes())?;
     let mut lengths = Vec::new(alloc);
     run_all(image, memory.as_mut_slice(), &mut lengths)?;
     Ok(lengths)

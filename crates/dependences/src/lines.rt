@@ -30,7 +30,7 @@ impl Lines {
         ensures { IfOk result (λ s. (cores : ℕ) → spec.AreLinesKept image.now cores 0 s) }
     {
         let size = image.size() as usize;
-        let own = vec![in alloc; 0; size].map_err(|_| NoMemory)?;
+        let own = vec![in alloc; 0; size]?;
         let two = LastTwo::none(alloc, image)?;
         Ok(Lines { own, two })
     }

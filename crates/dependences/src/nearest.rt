@@ -18,9 +18,9 @@ use std::alloc::Global;
 pub fn nearest_dependence(alloc: Global, image: &Image) -> Result<Option<u32>, NoMemory>
     ensures { IfOk result (λ nearest. IsNearest image.now nearest) }
 {
-    let mut memory = Vec::from_slice(alloc, image.bytes()).map_err(|_| NoMemory)?;
+    let mut memory = Vec::from_slice(alloc, image.bytes())?;
     let size = image.size() as usize;
-    let mut writers = vec![in alloc; 0; size].map_err(|_| NoMemory)?;
+    let mut writers = vec![in alloc; 0; size]?;
     let ran = run_all(image, memory.as_mut_slice(), writers.as_mut_slice());
     Ok(ran.nearest)
 }

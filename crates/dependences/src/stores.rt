@@ -22,7 +22,7 @@ pub fn stores_in_order(
 ) -> Result<Vec<(u32, u32)>, NoMemory>
     ensures { IfOk result (λ stores. AreStores image.now (piece_in pieces image.now) stores.items) }
 {
-    let mut memory = Vec::from_slice(alloc, image.bytes()).map_err(|_| NoMemory)?;
+    let mut memory = Vec::from_slice(alloc, image.bytes())?;
     let mut noted = none(alloc, pieces.of(image, image.size()) as usize)?;
     run_all(image, pieces, memory.as_mut_slice(), &mut noted)?;
     Ok(noted.list)
@@ -41,7 +41,7 @@ fn none(alloc: Global, pieces: usize) -> Result<Noted, NoMemory>
     ensures long { IfOk result (λ noted. length noted.last.items ≡ pieces) }
     ensures none { IfOk result (λ noted. (a : ℕ) → slice_index noted.last.items a ≡ 0) }
 {
-    let last = vec![in alloc; 0; pieces].map_err(|_| NoMemory)?;
+    let last = vec![in alloc; 0; pieces]?;
     Ok(Noted {
         list: Vec::new(alloc),
         last,

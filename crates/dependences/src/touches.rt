@@ -34,7 +34,7 @@ impl Touches {
         ensures { IfOk result (λ t. (cores : ℕ) → spec.AreTouchesKept image.now cores 0 t) }
     {
         let count = line_of(image, image.size()) as usize;
-        let stored = vec![in alloc; 0; count].map_err(|_| NoMemory)?;
+        let stored = vec![in alloc; 0; count]?;
         let two = LastTwo::none(alloc, image)?;
         Ok(Touches {
             two,

@@ -52,7 +52,7 @@ fn limit(alloc: Global, image: &Image, cores: u32, waits: Waits) -> Result<u64, 
     requires { 1 ≤ cores }
     ensures { IfOk result (λ steps. IsLimit image.now waits cores steps) }
 {
-    let mut memory = Vec::from_slice(alloc, image.bytes()).map_err(|_| NoMemory)?;
+    let mut memory = Vec::from_slice(alloc, image.bytes())?;
     let mut times = Times::none(alloc, image.size() as usize, waits)?;
     run_all(image, cores, memory.as_mut_slice(), &mut times)?;
     Ok(times.last_commit() + 1)

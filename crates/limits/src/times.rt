@@ -37,8 +37,8 @@ impl Times {
         ensures commits { IfOk result (λ t. t.commits ≡ []) }
         ensures writers { IfOk result (λ t. (a : ℕ) → slice_index t.writers a ≡ 0) }
     {
-        let writers = vec![in alloc; 0; size].map_err(|_| NoMemory)?;
-        let stores = vec![in alloc; 0; size].map_err(|_| NoMemory)?;
+        let writers = vec![in alloc; 0; size]?;
+        let stores = vec![in alloc; 0; size]?;
         Ok(Times {
             waits,
             commits: Vec::new(alloc),

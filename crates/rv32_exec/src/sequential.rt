@@ -57,7 +57,7 @@ pub fn run_in_order(alloc: Global, image: &Image) -> Result<SeqEnd, NoMemory>
     ensures ended { IfOk result (λ r. r ≡ spec.sequential_result image.now) }
     ensures size { IfOk result (λ r. length r.bytes ≡ image.now.size) }
 {
-    let mut bytes = Vec::from_slice(alloc, image.bytes()).map_err(|_| NoMemory)?;
+    let mut bytes = Vec::from_slice(alloc, image.bytes())?;
     let end = run_epochs(image, bytes.as_mut_slice());
     Ok(SeqEnd { end, bytes })
 }

@@ -29,6 +29,14 @@ impl NoMemory {
     }
 }
 
+impl From<AllocError> for NoMemory {
+    ghost from_gives = { λ _ _. Unit {0} };
+
+    fn from(_: AllocError) -> NoMemory {
+        NoMemory
+    }
+}
+
 /// What an image says beside its bytes.
 #[derive(Clone, Copy)]
 pub(crate) struct Header {
@@ -74,7 +82,7 @@ impl Image {
         requires { IsImage (loaded_image header bytes.items) }
         ensures { IfOk result (λ image. image ≡ loaded_image header bytes.items) }
     {
-        let program = decoded(alloc, header.code, bytes.as_slice()).map_err(|_| NoMemory)?;
+        let program = decoded(alloc, header.code, bytes.as_slice())?;
         Ok(Image {
             header,
             bytes,
@@ -88,8 +96,8 @@ impl Image {
     pub fn copy(&self, alloc: Global) -> Result<Image, NoMemory>
         ensures { IfOk result (λ image. image ≡ self.now) }
     {
-        let bytes = Vec::from_slice(alloc, self.bytes.as_slice()).map_err(|_| NoMemory)?;
-        let program = Vec::from_slice(alloc, self.program.as_slice()).map_err(|_| NoMemory)?;
+        let bytes = Vec::from_slice(alloc, self.bytes.as_slice())?;
+        let program = Vec::from_slice(alloc, self.program.as_slice())?;
         Ok(Image {
             header: self.header,
             bytes,

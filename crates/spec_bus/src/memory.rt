@@ -16,7 +16,7 @@ use std::alloc::Global;
 pub(crate) fn placed_memory(alloc: Global, image: &Image) -> Result<Vec<u8>, NoMemory>
     ensures { IfOk result (λ memory. memory.items ≡ (by_places image.now).bytes) }
 {
-    let mut memory = Vec::from_slice(alloc, image.bytes()).map_err(|_| NoMemory)?;
+    let mut memory = Vec::from_slice(alloc, image.bytes())?;
     if let Some(apart) = image.machine().apart {
         add_lines(&mut memory, image)?;
         lay(&mut memory, image, apart);

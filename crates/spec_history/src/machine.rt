@@ -30,7 +30,7 @@ impl Machine {
         ensures count { IfOk result (λ m. spec.count_of_cores m ≡ cores) }
         ensures fit { IfOk result spec.IsFit }
     {
-        let committed = Vec::from_slice(alloc, image.bytes()).map_err(|_| NoMemory)?;
+        let committed = Vec::from_slice(alloc, image.bytes())?;
         let cores = idle_cores(alloc, cores)?;
         let end = if image.epochs() == 0 {
             Some(End::Done(0))

@@ -1,6 +1,7 @@
 //! Why a call of the lock gives up.
 ghost use Rattle.std.specs.Prelude.{◌≡◌, codes};
 
+use std::alloc::AllocError;
 use thiserror::Error;
 
 /// An allocation was refused.
@@ -14,6 +15,14 @@ impl NoMemory {
         ensures { result.now ≡ codes "NoMemory" }
     {
         "NoMemory"
+    }
+}
+
+impl From<AllocError> for NoMemory {
+    ghost from_gives = { λ _ _. Unit {0} };
+
+    fn from(_: AllocError) -> NoMemory {
+        NoMemory
     }
 }
 

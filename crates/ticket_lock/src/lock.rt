@@ -66,13 +66,15 @@ impl<T: Kept, A: Allocator> TicketLock<T, A> {
         ensures fixed { IfOk result (λ r. r.0.fixed ≡ T.fixed value) }
         ensures pass { IfOk result (λ r. r.1 ≡ first_pass r.0 (T.past value)) }
     {
-        let rooms = Rooms::open(alloc.clone().map_err(|_| NoMemory)?).map_err(|_| NoMemory)?;
+        let rooms = Rooms::open(alloc.clone()?)?;
         let start = Start {
             numbers: n,
             value: Snapshot::of(&value),
         };
-        let mut slots = Vec::new(alloc.clone().map_err(|_| NoMemory)?);
-        slots.push(Slot { value }).map_err(|_| NoMemory)?;
+        let mut slots = Vec::new(alloc.clone()?);
+        let Ok(()) = slots.push(Slot { value }) else {
+            return Err(NoMemory);
+        };
         match Table::new(alloc, &[first, first], slots, &start) {
             Ok((table, seat)) => Ok((
                 TicketLock { table, rooms },

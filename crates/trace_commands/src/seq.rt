@@ -64,6 +64,6 @@ fn seq_report(alloc: Global, image: &Image) -> Result<(End, Vec<u8>), NoMemory>
 {
     let result = run_in_order(alloc, image)?;
     let end = result.end();
-    let text = print_report(alloc, image, end, result.bytes()).map_err(|_| NoMemory)?;
+    let text = print_report(alloc, image, end, result.bytes())?;
     Ok((end, text))
 }

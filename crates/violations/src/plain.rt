@@ -116,7 +116,7 @@ impl EpochStore for PlainStore {
     ghost starts = { Starts };
 
     fn fresh(alloc: Global, image: &Image, cores: u32) -> Result<PlainStore, NoMemory> {
-        let committed = Vec::from_slice(alloc, image.bytes()).map_err(|_| NoMemory)?;
+        let committed = Vec::from_slice(alloc, image.bytes())?;
         let states = idle_states(alloc, cores)?;
         Ok(PlainStore {
             size: image.size(),
