@@ -1,5 +1,5 @@
 /// What is printed of the turns of an input.
-#[derive(Clone, Copy, Debug, PartialEq, Eq)]
+#[derive(Clone, Copy)]
 pub enum Detail {
     /// What they make together.
     Whole,

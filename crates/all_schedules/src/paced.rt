@@ -30,7 +30,7 @@ use turn_costs::{Costs, PricedStore};
 use violations::EpochStore;
 
 /// What says whose turn is next.
-#[derive(Clone, Copy, Debug, PartialEq, Eq)]
+#[derive(Clone, Copy)]
 pub enum Pace {
     /// Even speed, where turns cost this, or nothing.
     Even(Option<Costs>),

@@ -15,7 +15,7 @@ use trace_text::print_trace;
 use violations::EpochStore;
 
 /// A schedule whose loop is over.
-#[derive(Clone, Copy, Debug, PartialEq, Eq)]
+#[derive(Clone, Copy)]
 pub struct Extreme {
     /// Its place in the list of schedules, counted from 0.
     pub place: usize,

@@ -15,7 +15,7 @@ use trace_commands::{Store, first_word, number_up_to_16, only_number, store_name
 use turn_costs::Costs;
 
 /// Whose turns are taken, on 1 to 16 cores.
-#[derive(Clone, Copy, Debug, PartialEq, Eq)]
+#[derive(Clone, Copy)]
 pub enum Turns {
     /// Those of the input, on so many cores. None: as many as its trace has.
     Given { detail: Detail, cores: Option<u32> },
@@ -28,7 +28,7 @@ pub enum Turns {
 }
 
 /// What the words of a command line ask for.
-#[derive(Clone, Copy, Debug, PartialEq, Eq)]
+#[derive(Clone, Copy)]
 pub struct Request {
     pub store: Store,
     pub turns: Turns,

@@ -242,7 +242,7 @@ fn refuse_all(
 ) -> Result<(), Fail> {
     for entry in entries {
         if let Some(refusal) = plain.refusal(alloc, *entry)? {
-            assert_eq!(rt; flat.apply(*entry), Err(refusal), "{entry:?}");
+            assert_eq!(rt; flat.apply(*entry), Err(refusal));
         }
     }
     Ok(())

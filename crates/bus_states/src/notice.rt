@@ -9,7 +9,7 @@ use spec_states::{
 };
 
 /// What a core tells the others of a line.
-#[derive(Clone, Copy, Debug, PartialEq, Eq)]
+#[derive(Clone, Copy)]
 pub enum Notice {
     /// It loads the line, speculatively or straight.
     Load,

@@ -24,7 +24,7 @@ pub const SETS: usize = 4;
 pub const WAYS: usize = 2;
 
 /// A core's cache, of lines of 16, 32 or 64 bytes. Contracts see it as its lines, set by set, and in a set way by way.
-#[derive(Debug, Drop)]
+#[derive(Drop)]
 pub struct Cache {
     stored: Stored,
     line_length: usize,

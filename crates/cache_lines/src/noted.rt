@@ -13,7 +13,7 @@ use std::marker::Model;
 
 /// Lines, and a list of the places whose lines may carry marks, so that a rollback and a publish cost what is marked.
 /// Contracts see the lines and the places.
-#[derive(Debug, Drop)]
+#[derive(Drop)]
 pub(crate) struct Noted {
     lines: Vec<Line>,
     /// The places. There is room for all, so that `put` takes no memory.

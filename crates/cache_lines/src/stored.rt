@@ -15,7 +15,7 @@ use std::alloc::{AllocError, Global};
 pub(crate) const FEW: usize = 8;
 
 /// The lines of a cache: in the cache itself, or in memory that it took, with a list of those that may carry marks.
-#[derive(Debug, Drop)]
+#[derive(Drop)]
 pub(crate) enum Stored {
     Few([Line; FEW]),
     Many(Noted),

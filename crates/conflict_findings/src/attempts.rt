@@ -11,7 +11,7 @@ use spec_history::{Entry, What};
 use std::alloc::{AllocError, Global};
 
 /// What became of an attempt that has ended.
-#[derive(Clone, Copy, Debug, PartialEq, Eq)]
+#[derive(Clone, Copy, PartialEq, Eq)]
 pub enum Fate {
     /// Its core committed it.
     Committed,
@@ -24,7 +24,7 @@ pub enum Fate {
 }
 
 /// The end of an attempt.
-#[derive(Clone, Copy, Debug, PartialEq, Eq)]
+#[derive(Clone, Copy, PartialEq, Eq)]
 pub struct AttemptEnd {
     /// The place in the history, counted from 0, of the entry that ended it.
     pub place: usize,
@@ -35,7 +35,7 @@ pub struct AttemptEnd {
 }
 
 /// An attempt of a history.
-#[derive(Clone, Copy, Debug, PartialEq, Eq)]
+#[derive(Clone, Copy, PartialEq, Eq)]
 pub struct Attempt {
     /// The place in the history, counted from 0, of the start or restart that began it; 0 where none did, which is so of no attempt
     /// of a history that replays.

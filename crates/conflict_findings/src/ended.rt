@@ -3,7 +3,7 @@
 use conflicts::Runner;
 
 /// What ended an attempt.
-#[derive(Clone, Copy, Debug, PartialEq, Eq)]
+#[derive(Clone, Copy)]
 pub enum Ending {
     /// Its core committed it, or it faulted, which commits what it had stored too: it counts.
     Committed,
@@ -14,7 +14,7 @@ pub enum Ending {
 }
 
 /// An attempt that has ended.
-#[derive(Clone, Copy, Debug, PartialEq, Eq)]
+#[derive(Clone, Copy)]
 pub struct Ended {
     /// The place in the history, counted from 0, of the entry that ended it.
     pub place: usize,
@@ -31,7 +31,7 @@ pub struct Ended {
 }
 
 /// An attempt that goes on after the last entry of the history.
-#[derive(Clone, Copy, Debug, PartialEq, Eq)]
+#[derive(Clone, Copy)]
 pub struct Running {
     /// Whose attempt it is, and at which epoch.
     pub runner: Runner,

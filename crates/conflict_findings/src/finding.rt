@@ -15,7 +15,7 @@ use spec_history::{Entry, What};
 use std::alloc::{AllocError, Global};
 
 /// A load or a store of a history.
-#[derive(Clone, Copy, Debug, PartialEq, Eq)]
+#[derive(Clone, Copy, PartialEq, Eq)]
 pub struct Access {
     /// The place of its entry, counted from 0.
     pub place: usize,
@@ -24,7 +24,7 @@ pub struct Access {
 }
 
 /// What is found of a violation: all that is told and summed of it, but for its further runs.
-#[derive(Clone, Copy, Debug, PartialEq, Eq)]
+#[derive(Clone, Copy, PartialEq, Eq)]
 pub struct Finding {
     /// The place of the violation in the history, counted from 0.
     pub place: usize,
@@ -68,7 +68,7 @@ pub struct Finding {
 }
 
 /// A further run of a violation: bytes at which the two epochs met, beside those that are blamed.
-#[derive(Clone, Copy, Debug, PartialEq, Eq)]
+#[derive(Clone, Copy)]
 pub struct FurtherRun {
     /// True sharing where the cause changes one of the bytes, a silent store where it writes them and changes none, false sharing
     /// where it writes their line alone.

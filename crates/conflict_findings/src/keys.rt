@@ -13,7 +13,7 @@ use std::alloc::AllocError;
 use std::collections::BTreeMap;
 
 /// A number by which violations are told apart.
-#[derive(Clone, Copy, Debug, PartialEq, Eq)]
+#[derive(Clone, Copy)]
 pub enum Key {
     /// The address of the first instruction of the pair: the blamed store.
     Store,

@@ -19,7 +19,7 @@ use std::alloc::{AllocError, Global};
 use std::collections::BTreeMap;
 
 /// How many violations of a part are of each kind. Unexplained ones have no pair and no line.
-#[derive(Clone, Copy, Debug, PartialEq, Eq)]
+#[derive(Clone, Copy, PartialEq, Eq)]
 pub struct CountsByKind {
     /// True sharing.
     pub true_sharing: u32,
@@ -32,7 +32,7 @@ pub struct CountsByKind {
 }
 
 /// What the violations of each kind cost.
-#[derive(Clone, Copy, Debug, PartialEq, Eq)]
+#[derive(Clone, Copy)]
 pub struct SumsByKind {
     /// True sharing.
     pub true_sharing: Sum,

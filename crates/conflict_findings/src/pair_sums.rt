@@ -12,7 +12,7 @@ use crate::rollback::{Pair, Rollback};
 use crate::sum::Sum;
 
 /// How many violations were stale, in vain, and came true later.
-#[derive(Clone, Copy, Debug, PartialEq, Eq)]
+#[derive(Clone, Copy, PartialEq, Eq)]
 pub struct Fates {
     /// The blamed store stood before the blamed load.
     pub stale: u32,
@@ -23,7 +23,7 @@ pub struct Fates {
 }
 
 /// The least and the greatest of some numbers.
-#[derive(Clone, Copy, Debug, PartialEq, Eq)]
+#[derive(Clone, Copy, PartialEq, Eq)]
 pub struct Bounds {
     /// The least.
     pub least: u32,
@@ -32,7 +32,7 @@ pub struct Bounds {
 }
 
 /// What the violations of a pair cost, and what became of them. The fields stand in an order that leaves no gap between them.
-#[derive(Clone, Copy, Debug, PartialEq, Eq)]
+#[derive(Clone, Copy, PartialEq, Eq)]
 pub struct PairSum {
     /// How many violations they are, and what they lost.
     pub sum: Sum,

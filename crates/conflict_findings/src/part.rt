@@ -7,7 +7,7 @@ use crate::rollback::{Pair, Rollback};
 use conflicts::Kind;
 
 /// Violations that have something in common.
-#[derive(Clone, Copy, Debug, PartialEq, Eq)]
+#[derive(Clone, Copy)]
 pub enum Part {
     /// All.
     Whole,

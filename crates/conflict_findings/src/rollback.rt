@@ -7,7 +7,7 @@ use crate::finding::{Access, Finding};
 use conflicts::{ByteRange, Kind};
 
 /// Two instructions that met, by their addresses.
-#[derive(Clone, Copy, Debug, PartialEq, Eq)]
+#[derive(Clone, Copy, PartialEq, Eq)]
 pub struct Pair {
     /// The store that is blamed. For a full buffer: the access that asked for the line.
     pub store: u32,
@@ -16,7 +16,7 @@ pub struct Pair {
 }
 
 /// A violation, as it is summed. The fields stand in an order that leaves no gap between them.
-#[derive(Clone, Copy, Debug, PartialEq, Eq)]
+#[derive(Clone, Copy)]
 pub struct Rollback {
     /// How many instructions were lost.
     pub lost: u64,

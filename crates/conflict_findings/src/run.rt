@@ -17,7 +17,7 @@ use spec_history::{Entry, Flat};
 use std::alloc::AllocError;
 
 /// Neighbouring bytes at which two epochs met, all of them first read by the same load, and given their value by the same store.
-#[derive(Clone, Copy, Debug, PartialEq, Eq)]
+#[derive(Clone, Copy)]
 pub struct Run {
     /// True sharing where the cause changes one of the bytes, a silent store where it writes them and changes none, false sharing
     /// where it writes their line alone.

@@ -9,7 +9,7 @@ use crate::part::Part;
 use crate::rollback::Rollback;
 
 /// What the violations of a part cost.
-#[derive(Clone, Copy, Debug, PartialEq, Eq)]
+#[derive(Clone, Copy, PartialEq, Eq)]
 pub struct Sum {
     /// How many they are.
     pub count: u32,

@@ -6,7 +6,7 @@ ghost use Rattle.conflict_findings.specs.Tallies as spec;
 use crate::ended::{Ended, Ending, Running};
 
 /// How many attempts there are, and how many instructions they executed in all.
-#[derive(Clone, Copy, Debug, PartialEq, Eq)]
+#[derive(Clone, Copy)]
 pub struct Tally {
     /// How many attempts.
     pub count: usize,

@@ -14,7 +14,7 @@ use trace_commands::{
 };
 
 /// What `why` is asked for.
-#[derive(Clone, Copy, Debug, PartialEq, Eq)]
+#[derive(Clone, Copy)]
 pub struct WhyAsked {
     /// The machine of the run.
     pub machine: MachineAsked,

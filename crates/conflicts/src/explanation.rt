@@ -1,7 +1,7 @@
 use spec_history::Kind;
 
 /// A core, and the epoch that it runs.
-#[derive(Clone, Copy, Debug, PartialEq, Eq)]
+#[derive(Clone, Copy, PartialEq, Eq)]
 pub struct Runner {
     /// The core's number.
     pub core: u32,
@@ -10,7 +10,7 @@ pub struct Runner {
 }
 
 /// Neighbouring bytes of memory.
-#[derive(Clone, Copy, Debug, PartialEq, Eq)]
+#[derive(Clone, Copy, PartialEq, Eq)]
 pub struct ByteRange {
     /// The address of the first.
     pub first: u32,
@@ -19,7 +19,7 @@ pub struct ByteRange {
 }
 
 /// Which load and which store a violation is blamed on, by their places in the history, and the bytes at which they met.
-#[derive(Clone, Copy, Debug, PartialEq, Eq)]
+#[derive(Clone, Copy, PartialEq, Eq)]
 pub struct Blame {
     /// The first load of the victim's attempt that read one of the bytes that count for the kind.
     pub load: usize,
@@ -34,7 +34,7 @@ pub struct Blame {
 }
 
 /// Why an epoch was violated, and what that cost.
-#[derive(Clone, Copy, Debug, PartialEq, Eq)]
+#[derive(Clone, Copy, PartialEq, Eq)]
 pub struct Explanation {
     /// The place of the violation in the history, counted from 0.
     pub place: usize,

@@ -10,7 +10,7 @@ use spec_history::{Entry, Flat, Illegal};
 use std::alloc::{AllocError, Global};
 
 /// Where a core stands before the load or store that is its next event.
-#[derive(Clone, Copy, Debug, PartialEq, Eq)]
+#[derive(Clone, Copy)]
 pub struct Site {
     /// The address of the instruction.
     pub pc: u32,

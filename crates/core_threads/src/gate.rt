@@ -28,7 +28,7 @@ pub trait Gate: Sync {
 }
 
 /// The gate that always passes.
-#[derive(Clone, Copy, Debug, Drop)]
+#[derive(Clone, Copy, Drop)]
 pub struct Open;
 
 impl Gate for Open {

@@ -21,7 +21,7 @@ use ticket_lock::{Pass, TicketLock};
 use violations::EpochStore;
 
 /// How the turns of a core ended.
-#[derive(Clone, Copy, Debug, PartialEq, Eq)]
+#[derive(Clone, Copy)]
 pub enum LoopEnd {
     /// The loop is over.
     Over,

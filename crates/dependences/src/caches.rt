@@ -18,7 +18,7 @@ use rv32_image::Image;
 use std::alloc::Global;
 
 /// In what two epochs conflict over caches.
-#[derive(Clone, Copy, Debug, PartialEq, Eq)]
+#[derive(Clone, Copy)]
 pub enum CacheConflict {
     /// The earlier one stores in a line in which the later one, this one, reads a byte from outside.
     Line { later: u32 },

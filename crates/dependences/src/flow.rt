@@ -14,7 +14,7 @@ use std::alloc::Global;
 use std::marker::Model;
 
 /// A load that reads from outside what an earlier epoch stores, and the last store of that.
-#[derive(Clone, Copy, Debug, PartialEq, Eq)]
+#[derive(Clone, Copy, PartialEq, Eq)]
 pub struct Dependence {
     /// The epoch that stores.
     pub earlier: u32,

@@ -46,7 +46,7 @@ fn add(lengths: &mut Vec<u64>, count: u64) -> Result<(), NoMemory>
 }
 
 /// How many instructions an epoch has executed, and whether the next one runs.
-#[derive(Clone, Copy, Debug)]
+#[derive(Clone, Copy)]
 struct Length {
     count: u64,
     goes_on: bool,

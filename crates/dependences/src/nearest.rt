@@ -26,7 +26,7 @@ pub fn nearest_dependence(alloc: Global, image: &Image) -> Result<Option<u32>, N
 }
 
 /// What came of the run in order: how many epochs it has, and how near they depend on each other.
-#[derive(Clone, Copy, Debug)]
+#[derive(Clone, Copy)]
 pub(crate) struct Ran {
     pub(crate) epochs: u32,
     pub(crate) nearest: Option<u32>,
@@ -57,7 +57,7 @@ pub(crate) fn run_all(image: &Image, memory: &mut [u8], writers: &mut [u32]) -> 
 }
 
 /// What came of an epoch: whether the next one runs, and how near epochs depend on each other so far.
-#[derive(Clone, Copy, Debug)]
+#[derive(Clone, Copy)]
 struct Followed {
     goes_on: bool,
     nearest: Option<u32>,

@@ -5,7 +5,7 @@ use crate::last_two::line_of;
 use rv32_image::Image;
 
 /// Pieces of memory.
-#[derive(Clone, Copy, Debug, PartialEq, Eq)]
+#[derive(Clone, Copy)]
 pub enum Pieces {
     /// Bytes.
     Bytes,

@@ -5,7 +5,7 @@ ghost use Rattle.even_speed.specs.Account as spec;
 use homefree::Cause;
 
 /// What an attempt's steps went to beside its instructions.
-#[derive(Clone, Copy, Debug, PartialEq, Eq)]
+#[derive(Clone, Copy)]
 pub struct Spent {
     /// To begin or commit its epoch: a step each, and what that costs.
     pub handling: u64,
@@ -45,7 +45,7 @@ impl Spent {
 }
 
 /// Steps of cores, by where they went.
-#[derive(Clone, Copy, Debug, PartialEq, Eq)]
+#[derive(Clone, Copy)]
 pub struct Account {
     /// Of attempts that committed, or faulted as the homefree epoch's: their instructions.
     pub busy: u64,

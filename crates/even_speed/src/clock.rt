@@ -8,7 +8,7 @@ use crate::account::{Account, NOTHING_SPENT, Spent, no_steps};
 use homefree::{Answer, Cause};
 
 /// What a core comes to next.
-#[derive(Clone, Copy, Debug, PartialEq, Eq)]
+#[derive(Clone, Copy)]
 pub enum Next {
     /// A turn, at this time.
     Due(u64),
@@ -19,7 +19,7 @@ pub enum Next {
 }
 
 /// The time of one core, in steps since the start of the run, and where its steps went.
-#[derive(Clone, Copy, Debug, PartialEq, Eq)]
+#[derive(Clone, Copy)]
 pub struct Clock {
     /// What comes next.
     pub next: Next,

@@ -13,7 +13,7 @@ use rv32_exec::NoMemory;
 use std::alloc::Global;
 
 /// Whose turn is next, and when.
-#[derive(Clone, Copy, Debug)]
+#[derive(Clone, Copy)]
 pub struct Turn {
     /// The core.
     pub core: u32,

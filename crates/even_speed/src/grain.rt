@@ -7,7 +7,7 @@ ghost use Rattle.even_speed.specs.Grain.{HasPieces, piece_by};
 use rv32_image::Machine;
 
 /// What the pieces of memory are.
-#[derive(Clone, Copy, Debug, PartialEq, Eq)]
+#[derive(Clone, Copy)]
 pub enum Grain {
     /// Bytes.
     Bytes,

@@ -9,7 +9,7 @@ use homefree::Answer;
 use turn_costs::{Actions, Costs};
 
 /// What a turn costs its core, and what it needs.
-#[derive(Clone, Copy, Debug, PartialEq, Eq)]
+#[derive(Clone, Copy)]
 pub struct Price {
     /// It can't begin before the bus is free.
     pub needs_bus: bool,
@@ -48,7 +48,7 @@ pub(crate) fn price_of(costs: &Costs, actions: &Actions) -> Price
 }
 
 /// When what turns need is free, in steps since the start of the run.
-#[derive(Clone, Copy, Debug, PartialEq, Eq)]
+#[derive(Clone, Copy)]
 pub struct Free {
     /// When the last turn began.
     pub began: u64,

@@ -41,7 +41,7 @@ use violations::{EpochStore, MAX_CORES};
 const MOST_TURNS: u32 = 17 * MOST_ROOM + 17;
 
 /// A run that came to the end of its loop.
-#[derive(Clone, Copy, Debug, PartialEq, Eq)]
+#[derive(Clone, Copy)]
 pub struct Ran {
     /// The end of the loop.
     pub end: End,

@@ -6,7 +6,7 @@ use spec_history::{Entry, What};
 use violations::MAX_CORES;
 
 /// What a core runs.
-#[derive(Clone, Copy, Debug)]
+#[derive(Clone, Copy)]
 pub(crate) struct Seat {
     /// The epoch's number.
     pub epoch: u32,

@@ -1,7 +1,7 @@
 use rv32_exec::{End, Hart};
 
 /// What a turn came to.
-#[derive(Clone, Copy, Debug, PartialEq, Eq)]
+#[derive(Clone, Copy, PartialEq, Eq)]
 pub enum Answer {
     /// The core goes on from this hart.
     Go(Hart),
@@ -29,7 +29,7 @@ pub(crate) enum Came {
 }
 
 /// Why a core has to come again.
-#[derive(Clone, Copy, Debug, PartialEq, Eq)]
+#[derive(Clone, Copy, PartialEq, Eq)]
 pub enum Cause {
     /// No epoch is left to be started.
     NoEpoch,
@@ -44,7 +44,7 @@ pub enum Cause {
 }
 
 /// Why a book takes no more turns, although its loop isn't over.
-#[derive(Clone, Copy, Debug, PartialEq, Eq)]
+#[derive(Clone, Copy, PartialEq, Eq)]
 pub enum StopCause {
     /// The history has no room for another turn.
     HistoryFull,

@@ -7,7 +7,7 @@ use spec_history::Entry;
 use violations::Attempt;
 
 /// What a core runs.
-#[derive(Clone, Copy, Debug)]
+#[derive(Clone, Copy)]
 pub struct Running {
     /// The epoch's number.
     pub epoch: u32,

@@ -14,7 +14,7 @@ use rv32_image::Image;
 use std::alloc::Global;
 
 /// In how few steps so many cores can run a loop.
-#[derive(Clone, Copy, Debug)]
+#[derive(Clone, Copy)]
 pub struct Limits {
     /// Where a load that depends on an earlier epoch waits for the store.
     pub forward: u64,
@@ -23,7 +23,7 @@ pub struct Limits {
 }
 
 /// What a load that depends on an earlier epoch waits for.
-#[derive(Clone, Copy, Debug)]
+#[derive(Clone, Copy)]
 pub enum Waits {
     /// The last store of the byte.
     Store,

@@ -23,7 +23,7 @@ impl OrbFull {
 }
 
 /// The addresses of at most `limit` lines, each once, in the order in which they entered.
-#[derive(Debug, Drop)]
+#[derive(Drop)]
 pub struct Orb {
     lines: ArrayVec<u32, LARGEST_LIMIT>,
     limit: usize,

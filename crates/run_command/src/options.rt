@@ -1,5 +1,5 @@
 /// How a run is asked for.
-#[derive(Clone, Copy, Debug, PartialEq, Eq)]
+#[derive(Clone, Copy)]
 pub struct RunOptions {
     /// How many cores there are.
     pub cores: u32,

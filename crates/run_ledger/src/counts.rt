@@ -1,7 +1,7 @@
 //! The four quantities that a run counts.
 
 /// How many loads, stores, restarts and commits were made.
-#[derive(Clone, Copy, Debug, PartialEq, Eq)]
+#[derive(Clone, Copy, PartialEq, Eq)]
 pub struct Counts {
     pub loads: u64,
     pub stores: u64,

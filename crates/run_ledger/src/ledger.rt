@@ -14,7 +14,7 @@ const NONE: Counts = Counts {
 };
 
 /// What was counted in all.
-#[derive(Debug, Drop)]
+#[derive(Drop)]
 pub struct Totals {
     made: Counts,
 }
@@ -28,7 +28,7 @@ impl Model for Totals {
 }
 
 /// The part of the totals that one holder counted. It is neither cloned nor copied, so that no count is shared out twice.
-#[derive(Debug, Drop)]
+#[derive(Drop)]
 pub struct Shares {
     held: Counts,
 }

@@ -7,7 +7,7 @@ use std::marker::Model;
 /// The number of an integer register, x0 to x31. Contracts see it as that number.
 ///
 /// Source: RISC-V Unprivileged ISA, "Programmers' Model for Base Integer ISA".
-#[derive(Clone, Copy, Debug, PartialEq, Eq)]
+#[derive(Clone, Copy, PartialEq, Eq)]
 pub struct Register {
     number: u8,
 }

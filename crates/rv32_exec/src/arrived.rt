@@ -13,7 +13,7 @@ use std::marker::Model;
 /// instruction at which it stopped, and the stop. Contracts see these three.
 ///
 /// At a load or a store the access has width 1, 2 or 4, and the hart has executed fewer than 1,000,000 instructions.
-#[derive(Clone, Copy, Debug, PartialEq, Eq)]
+#[derive(Clone, Copy)]
 pub struct Arrived {
     base: Hart,
     now: Hart,

@@ -19,7 +19,7 @@ use std::marker::Model;
 /// The pc is a multiple of 4, and x0 is 0.
 ///
 /// Source: RISC-V Unprivileged ISA, "Programmers' Model for Base Integer ISA".
-#[derive(Clone, Copy, Debug)]
+#[derive(Clone, Copy)]
 pub struct Hart {
     x: Registers,
     pc: u32,

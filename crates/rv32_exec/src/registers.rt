@@ -8,7 +8,7 @@ use std::marker::Model;
 
 /// The integer registers of a hart, x0 to x31, and after them the place of what is written to x0, which nothing reads. Contracts
 /// see the registers as `x`, in which x0 is 0, and that place as `unread`.
-#[derive(Clone, Copy, Debug)]
+#[derive(Clone, Copy)]
 pub(crate) struct Registers {
     places: [u32; 33],
 }

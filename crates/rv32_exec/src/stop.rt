@@ -21,7 +21,7 @@ pub const STORE_OUTSIDE_DATA: u32 = 7;
 pub const INSTRUCTION_LIMIT: u32 = 8;
 
 /// Where a hart needs more than itself: an access to data, the end of its epoch, or a fault.
-#[derive(Clone, Copy, Debug, PartialEq, Eq)]
+#[derive(Clone, Copy, PartialEq, Eq)]
 pub enum Stop {
     /// A load of `width` bytes (1, 2 or 4) into `rd`, with sign extension where `signed` (never at width 4).
     Load {

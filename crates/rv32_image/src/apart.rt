@@ -3,7 +3,7 @@ ghost use Rattle.std.specs.Prelude.{◌≡◌, ◌↔◌, ◌<◌, ◌≤◌, Is
 ghost use Rattle.rv32_image.specs.Places as spec;
 
 /// Bytes of memory that have lines of their own: each piece of them has one, behind memory.
-#[derive(Clone, Copy, Debug, PartialEq, Eq)]
+#[derive(Clone, Copy, PartialEq, Eq)]
 pub struct Apart {
     /// The address of the first of them: a multiple of 4.
     pub first: u32,

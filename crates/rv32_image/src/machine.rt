@@ -5,7 +5,7 @@ ghost use Rattle.rv32_image.specs.Places.{AllowsApart, place};
 use crate::apart::Apart;
 
 /// How large the caches of a machine are, and which bytes have lines of their own.
-#[derive(Clone, Copy, Debug, PartialEq, Eq)]
+#[derive(Clone, Copy, PartialEq, Eq)]
 pub struct Machine {
     /// Bytes of a line: 16, 32 or 64.
     pub line_length: u32,

@@ -4,7 +4,7 @@ ghost use Rattle.rv32_image.specs.Version.{limits_of, machine_of};
 use crate::machine::Machine;
 
 /// The version of an image. It fixes the limits of the image, and the machine that runs it where no other is asked for.
-#[derive(Clone, Copy, Debug, PartialEq, Eq)]
+#[derive(Clone, Copy)]
 pub enum Version {
     /// Also the version of an image that names none.
     One,
@@ -13,7 +13,7 @@ pub enum Version {
 }
 
 /// What a version allows. All crates read these numbers here.
-#[derive(Clone, Copy, Debug, PartialEq, Eq)]
+#[derive(Clone, Copy)]
 pub struct Limits {
     /// The fewest bytes that memory may have.
     pub least_size: u32,

@@ -22,7 +22,7 @@ use std::alloc::{AllocError, Global};
 use violations::Attempt;
 
 /// A core: its cache, its ownership required buffer, its attempt.
-#[derive(Debug, Drop)]
+#[derive(Drop)]
 pub struct Core {
     pub cache: Cache,
     pub orb: Orb,

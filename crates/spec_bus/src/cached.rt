@@ -30,7 +30,7 @@ use std::marker::Model;
 use violations::{Attempt, CoreSet, EpochStore, Step, WaitCause};
 
 /// A copy of a line, without its bytes.
-#[derive(Clone, Copy, Debug, PartialEq, Eq)]
+#[derive(Clone, Copy)]
 pub struct LineView {
     /// The state; I where there is no copy.
     pub state: LineState,

@@ -1,5 +1,5 @@
 /// One entry of a history: what the turn of one core did.
-#[derive(Clone, Copy, Debug, PartialEq, Eq)]
+#[derive(Clone, Copy, PartialEq, Eq)]
 pub struct Entry {
     /// The core whose turn made the entry.
     pub by: u32,
@@ -11,7 +11,7 @@ pub struct Entry {
 ///
 /// Epochs, homefree and violation are those of Steffan, Colohan, Zhai and Mowry, "A Scalable Approach to
 /// Thread-Level Speculation", ISCA 2000.
-#[derive(Clone, Copy, Debug, PartialEq, Eq)]
+#[derive(Clone, Copy, PartialEq, Eq)]
 pub enum What {
     /// The core, which was idle, begins this epoch.
     Start(u32),

@@ -2,7 +2,7 @@
 ///
 /// True and false sharing are those of Torrellas, Lam and Hennessy, "False Sharing and Spatial Locality in Multiprocessor
 /// Caches", 1994; a silent store is that of Lepak and Lipasti, "On the Value Locality of Store Instructions", ISCA 2000.
-#[derive(Clone, Copy, Debug, PartialEq, Eq)]
+#[derive(Clone, Copy, PartialEq, Eq)]
 pub enum Kind {
     /// The cause changes a byte that the violated epoch had read.
     TrueSharing,

@@ -8,7 +8,7 @@ ghost use Rattle.spec_states.specs.States.{is_valid, is_exclusive, is_speculativ
 pub const LONGEST_LINE: usize = 64;
 
 /// The state of a copy of a line: the four of the MESI protocol, and two of copies that carry marks.
-#[derive(Clone, Copy, Debug, PartialEq, Eq)]
+#[derive(Clone, Copy, PartialEq, Eq)]
 pub enum LineState {
     /// Invalid: the core does not hold the line.
     I,
@@ -55,7 +55,7 @@ impl LineState {
 }
 
 /// The marks of a copy, which SpS and SpE carry.
-#[derive(Clone, Copy, Debug, PartialEq, Eq)]
+#[derive(Clone, Copy, PartialEq, Eq)]
 pub struct Marks {
     /// Speculatively loaded: the epoch read a byte of the line that it had not stored itself.
     pub loaded: bool,

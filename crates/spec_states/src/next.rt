@@ -5,14 +5,14 @@ ghost use Rattle.spec_states.specs.Tables.{to as change_to, to_violation};
 use crate::line::{LineState, Marks};
 
 /// Whether the owner of a copy runs an earlier or a later epoch than the core whose message reaches it.
-#[derive(Clone, Copy, Debug, PartialEq, Eq)]
+#[derive(Clone, Copy)]
 pub enum Order {
     Earlier,
     Later,
 }
 
 /// What an event makes of a copy, and what else the event asks for.
-#[derive(Clone, Copy, Debug, PartialEq, Eq)]
+#[derive(Clone, Copy)]
 pub struct Next {
     /// The state afterwards.
     pub state: LineState,

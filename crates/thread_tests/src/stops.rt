@@ -222,7 +222,7 @@ fn is_over_or_refused<S: EpochStore, R: Abort + Threads + Wait + Sync>(
 ) -> Result<(), &'static str> {
     match run::<S, Open, R>(rt, alloc, image, 2, 64, &Open) {
         Ok(run) => {
-            assert_eq!(rt; run.end, End::Done(4));
+            assert!(rt; run.end == End::Done(4));
             look_again(rt, alloc, &run.book, image)
         }
         Err(run) => {

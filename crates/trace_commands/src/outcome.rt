@@ -10,7 +10,7 @@ use std::io::Write;
 use trace_text::{TraceFault, TraceFaultKind};
 
 /// Why a command stopped before its end.
-#[derive(Clone, Copy, Debug, PartialEq, Eq)]
+#[derive(Clone, Copy)]
 pub enum CommandStop {
     /// A write or a flush of standard output failed.
     Write,
@@ -44,7 +44,7 @@ impl CommandStop {
 }
 
 /// What an audit found.
-#[derive(Clone, Copy, Debug, PartialEq, Eq)]
+#[derive(Clone, Copy)]
 pub enum Verdict {
     /// All entries are legal: how many there are, and the homefree epoch after them.
     Legal { entries: usize, homefree: u32 },
@@ -53,7 +53,7 @@ pub enum Verdict {
 }
 
 /// What a command came to.
-#[derive(Clone, Copy, Debug, PartialEq, Eq)]
+#[derive(Clone, Copy)]
 pub enum Outcome {
     /// The loop ran, and its report was written.
     Reported(End),

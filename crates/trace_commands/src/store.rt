@@ -8,7 +8,7 @@ use crate::address::address_in;
 use rv32_image::{Apart, Image, Machine, cut, number_in};
 
 /// What is asked of a machine: None of what the version of an image says.
-#[derive(Clone, Copy, Debug, PartialEq, Eq)]
+#[derive(Clone, Copy)]
 pub struct MachineAsked {
     /// Bytes of a line.
     pub line_length: Option<u32>,
@@ -56,7 +56,7 @@ impl MachineAsked {
 }
 
 /// The store that a schedule runs over.
-#[derive(Clone, Copy, Debug, PartialEq, Eq)]
+#[derive(Clone, Copy)]
 pub enum Store {
     /// Caches on a coherent bus, of this machine.
     Caches(MachineAsked),

@@ -5,7 +5,7 @@ ghost use Rattle.turn_costs.specs.Actions as spec;
 use crate::costs::Costs;
 
 /// How often a turn, or an access, does what costs.
-#[derive(Clone, Copy, Debug, PartialEq, Eq)]
+#[derive(Clone, Copy, PartialEq, Eq)]
 pub struct Actions {
     /// Accesses to a line of which the core has no copy.
     pub misses: u32,

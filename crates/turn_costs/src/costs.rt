@@ -8,7 +8,7 @@ use std::marker::Model;
 pub const MOST_COST: u32 = 1_000_000;
 
 /// How many steps an action costs: at most `MOST_COST`. Contracts see it as that number.
-#[derive(Clone, Copy, Debug, PartialEq, Eq)]
+#[derive(Clone, Copy)]
 pub struct Cost {
     steps: u32,
 }
@@ -48,7 +48,7 @@ impl Cost {
 }
 
 /// How many steps actions cost, beside the one that each turn takes.
-#[derive(Clone, Copy, Debug, PartialEq, Eq)]
+#[derive(Clone, Copy)]
 pub struct Costs {
     /// An access to a line of which the core has no copy.
     pub miss: Cost,

@@ -8,8 +8,8 @@ use trace_commands::write_bytes;
 /// So many bytes of a text are kept before they are written.
 const MOST_KEPT: usize = 65_536;
 
-/// Writes a text that has grown long, where all before it was written, notes whether this was too, and keeps none of it. So few bytes
-/// of a text are kept, however long that is.
+/// Writes a text that has grown long, where all before it was written, notes whether this was too, and keeps none of it. Fewer than
+/// 65,536 bytes of a text are kept, however long that is.
 pub fn write_long<W: Write>(writer: &mut W, whole: &mut bool, text: &mut Vec<u8>)
     ensures written { (first : Option (List ℕ)) (told : List ℕ) → spec.IsWrittenBut text.old.items whole.old first (W.contents writer.old) told
         → spec.IsWrittenBut text.new.items whole.new first (W.contents writer.new) told }

@@ -1,5 +1,5 @@
 /// One run of an epoch on a core, from its begin until it is violated or left.
-#[derive(Clone, Copy, Debug, PartialEq, Eq)]
+#[derive(Clone, Copy, PartialEq, Eq)]
 pub struct Attempt {
     /// The epoch's number.
     pub epoch: u32,

@@ -5,7 +5,7 @@ ghost use Rattle.violations.specs.CoreSet as spec;
 pub const MAX_CORES: usize = 16;
 
 /// Some of the cores of a store.
-#[derive(Clone, Copy, Debug, PartialEq, Eq)]
+#[derive(Clone, Copy)]
 pub struct CoreSet {
     /// For each core whether it is in the set.
     pub members: [bool; MAX_CORES],

@@ -1,7 +1,7 @@
 use crate::core_set::CoreSet;
 
 /// Why a speculative access has to wait. A store that keeps no lines never waits.
-#[derive(Clone, Copy, Debug, PartialEq, Eq)]
+#[derive(Clone, Copy, PartialEq, Eq)]
 pub enum WaitCause {
     /// All ways of the line's set hold marked lines.
     NoWay,
@@ -12,7 +12,7 @@ pub enum WaitCause {
 }
 
 /// What a store answers to a speculative access.
-#[derive(Clone, Copy, Debug, PartialEq, Eq)]
+#[derive(Clone, Copy)]
 pub enum Step {
     /// It was done, gave this value (0 for a store), and violated these cores.
     Done { value: u32, hurt: CoreSet },
