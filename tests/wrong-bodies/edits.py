@@ -327,6 +327,25 @@ def once_each(edits: Sequence[Edit]) -> tuple[list[Edit], list[Edit]]:
     return chosen, others
 
 
+def apart(edits: Sequence[Edit], sources: Sources) -> Iterator[list[Edit]]:
+    """The edits in lists in which each function is changed once, in its place, and each text stands once. One that
+    changes more than bodies has a list of its own."""
+    yield from ([it] for it in edits if not it.in_bodies)
+    left = [it for it in edits if it.in_bodies]
+    while left:
+        some, left = once_each(left)
+        texts: Texts = {}
+        beside_others: list[Edit] = []
+        for edit in some:
+            made = made_beside(edit, sources, texts)
+            if made is None:
+                yield [edit]
+            else:
+                beside_others.append(edit)
+                texts = made
+        yield beside_others
+
+
 def batches_of(edits: Sequence[Edit], sources: Sources) -> Iterator[list[Edit]]:
     """The edits in as few lists as one pass finds: in a list each function is changed once, and each text stands once;
     what can't stand so stands in a twin of its function. So does what changes the function's contract, since nothing
