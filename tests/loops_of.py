@@ -326,11 +326,9 @@ def wrong_plugins(folder: Path) -> Iterator[Check]:
     """The plug-in with mistakes, of which the environment of one that is built for that chooses one. Those that LLVM's
     verifier or the pass itself sees make no image; an array that doesn't go along changes no memory, but is told, and
     isn't called an iteration's own any more."""
-    from loops.loops_of.build import Kit, build_part, join_parts, kit_of
+    from loops.loops_of.build import Kit, build_plugin, kit_of
     kit = Kit(Path(shutil.copytree(kit_of().folder, folder / "wrong")))
-    for part in ("carried", "outline"):
-        build_part(kit, part, ("-DPLANTS",))
-    join_parts(kit)
+    build_plugin(kit, ("-DPLANTS",))
     rights: dict[str, str] = {}
     for number, what, line, told in (
             (2, "the epoch's number is made outside the loop", "forms.c:93", "didn't end"),

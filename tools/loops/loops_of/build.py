@@ -34,7 +34,6 @@ CPP = (".cc", ".cpp", ".cxx", ".c++", ".C")
 # that is carried around the loop.
 BEFORE = ("loops-keep,function(sroa,simplifycfg,loop-simplify,lcssa,loop(loop-rotate),instcombine,simplifycfg,adce,"
           "loop-simplify,lcssa,loop(indvars),loop-simplify,lcssa),loops-frames")
-PARTS = ("places", "refusals", "carried", "outline", "plugin")
 MEMORY = 1 << 20
 PAGE = 4096
 # how much longer the code may become by a loop that is outlined, before the variables move up
@@ -100,14 +99,10 @@ class Kit:
                    source, *words)
 
 
-def build_part(kit: Kit, part: str, flags: tuple[str, ...] = ()) -> None:
-    """Builds a part of the plug-in."""
+def build_plugin(kit: Kit, flags: tuple[str, ...] = ()) -> None:
+    """Builds the plug-in."""
     words = ["-std=c++17", "-O1", "-fPIC", "-fno-rtti", "-fno-exceptions", "-isystem", LLVM / "include", *flags]
-    run("g++", *words, "-c", HERE / "pass" / f"{part}.cpp", "-o", kit.folder / f"{part}.o")
-
-
-def join_parts(kit: Kit) -> None:
-    run("g++", "-shared", "-o", kit.plugin, *(kit.folder / f"{part}.o" for part in PARTS))
+    run("g++", *words, "-shared", HERE / "pass/all.cpp", "-o", kit.plugin)
 
 
 def build_runtime(kit: Kit) -> None:
@@ -138,13 +133,11 @@ def kit_of() -> Kit:
     folder = folder_of_kits()
     made = Kit(folder / told[:16])
     if not made.plugin.is_file():
-        print("loops-of: builds its plug-in for LLVM, once, in a minute", file=sys.stderr)
+        print("loops-of: builds its plug-in for LLVM, once, in half a minute", file=sys.stderr)
         folder.mkdir(parents=True, exist_ok=True)
         with tempfile.TemporaryDirectory(dir=folder) as scratch:
             scratch_kit = Kit(Path(scratch))
-            for part in PARTS:
-                build_part(scratch_kit, part)
-            join_parts(scratch_kit)
+            build_plugin(scratch_kit)
             build_runtime(scratch_kit)
             # whole or not at all, where two build it at once
             shutil.copytree(scratch, made.folder, dirs_exist_ok=True)
