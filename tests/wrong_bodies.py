@@ -27,7 +27,7 @@ sys.path[:0] = [str(TOP / "tests/wrong-bodies"), str(TOP / "tools")]
 sys.dont_write_bytecode = True
 
 from checks import is_another  # noqa: E402
-from edits import Sources, batches_of, read_edit  # noqa: E402
+from edits import Sources, batches_of, read_edit, searching_nothing  # noqa: E402
 
 SOURCE = """\
 //! Numbers one after the other.
@@ -290,11 +290,27 @@ EDITS: dict[str, tuple[Sequence[Pair], str]] = {
     "count_of_small_in_a_twin_of_one_arm_is_right": (
         [("Size::Small => 1,", "Size::Small => (1),")], "FAILED, NOT REFUSED by a message at count_of: proved"),
     "ones_make_three_by_law": ([("    ensures { 1 + 1 ≡ 2 }", "    ensures { 1 + 1 ≡ 3 }")], "refused: "),
+    "next_but_one_is_wrong_by_its_answers": ([("    next(one)", "    next(one) + 3"), "by answers"],
+                                             "refused: ./proofs/next_but_one"),
+    "next_but_one_is_right_by_its_answers": (
+        [("    next(one)", "    (next(one))"), "by answers"],
+        "FAILED, NOT REFUSED by a message at next_but_one: proved"),
+    "two_after_is_six_by_answers_that_it_has_not": ([("    n + 2", "    n + 6"), "by answers"],
+                                                    "refused: note: src/lib.rt:"),
     "next_is_three_more_and_known_as_a_misfit": ([("    n + 1", "    n + 3")],
                                                  "FAILED, NO MISFIT: misfits.txt has it, refused: "),
     "the_head_of_the_file": ([("//! Numbers one", "//! Numbers, one")], "FAILED, BAD EDIT: it changes no function"),
 }
 
+
+# Heads of functions, and what they are where no tactic searches.
+HEADS = [
+    ("/// One.\npub fn one() -> u32 {", "/// One.\n#[tactic(none)] pub fn one() -> u32 {"),
+    ("    /// One, of fn one.\n    #[inline]\n    fn one(\n        of: u32,\n    ) -> u32",
+     "    /// One, of fn one.\n    #[inline]\n    #[tactic(none)] fn one(\n        of: u32,\n    ) -> u32"),
+    ("#[tactic(auto, unfolding(specs::A::a,\n    specs::B::b))]\npub(crate) fn one() {",
+     "#[tactic(none)]\n\npub(crate) fn one() {"),
+]
 
 # The edits that change more than bodies and further imports.
 OF_CONTRACTS = {"next_breaks_another_function", "four_after_promises_five", "count_of_promises_less_by_the_same_import",
@@ -570,13 +586,19 @@ def terms() -> Iterator[Check]:
         yield f"{one} and {other}", differs(is_another(one, other) or is_another(other, one), wanted)
 
 
+def heads() -> Iterator[Check]:
+    """What is written where no tactic searches: each line stays where it is."""
+    for head, wanted in HEADS:
+        yield f"no search in {head!r}", differs(searching_nothing(head, "one"), wanted)
+
+
 def main() -> int:
     script = Script()
     if not shutil.which("rt"):
         left_out("wrong bodies of a small crate", "the command rt of the Rattle kit isn't installed")
         return 0
     with tempfile.TemporaryDirectory() as name:
-        script.run(partial(of_a_small_crate, Path(name)), partial(together, Path(name, "together")), terms)
+        script.run(partial(of_a_small_crate, Path(name)), partial(together, Path(name, "together")), terms, heads)
     return script.ended()
 
 

@@ -213,18 +213,19 @@ def is_another(one: str, other: str) -> bool:
     return one != other and bool(are_values or are_fields or made and made[1] == other)
 
 
-def verdict(said: Said, asked: Asked, bare: bool = False, alone: bool = False) -> Verdict | None:
+def verdict(said: Said, asked: Asked, bare: bool = False, alone: bool = False,
+            by_answers: bool = False) -> Verdict | None:
     """Whether a check refuses a function, and the message by which; or None, where it says nothing of it. It refuses it
     by a goal that is false, or that doesn't follow; by one for which tactics that met no limit found no proof, if its
     answers are there, and it has none that was rejected; or by an answer that would fit but for one value, which is
-    another one."""
+    another one. Where only answers were looked at, what is said of goals and of other answers says nothing."""
     answers, goals = own_messages(said, asked, alone)
     rejected = {it[2] for it in answers}
-    for it in goals:
+    for it in [] if by_answers else goals:
         goal = GOAL.search(it[3])
         if FALSE_GOAL in it[3] or not bare and GAVE_UP not in it[3] and not (goal and goal[1] in rejected):
             return Verdict(True, it[0])
     for it in answers:
         if NO_CONSEQUENCE.search(it[0]) or is_of_another_value(it[0]):
             return Verdict(True, it[0])
-    return next((Verdict(False, it[0]) for it in [*answers, *goals]), None)
+    return None if by_answers else next((Verdict(False, it[0]) for it in [*answers, *goals]), None)

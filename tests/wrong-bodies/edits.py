@@ -13,7 +13,9 @@ IMPORTS = ("use ", "ghost use ")
 CLAUSE = re.compile(r"(?m)^ *(?:requires|ensures)\b")
 MUCH = 8  # lines
 WITHOUT_ANSWERS = "without answers"
+BY_ANSWERS = "by answers"
 CONSTANT = re.compile(r" *(?:pub(?:\([a-z ]+\))? )?const fn ")
+TACTIC = re.compile(r"#\[tactic\([^\[\]]*\)\]")
 ARM = re.compile(r" *\w+::(\w+)(?: \{[^{}]*\})? => .*")
 
 
@@ -48,14 +50,15 @@ class Twin:
 @dataclass(frozen=True)
 class Edit:
     """A wrong body: its name, what it changes, the paths of the functions that it changes, whether it changes nothing
-    but their bodies, so that no other function can tell, and whether it is tried without their answers. Where the wrong
-    body stands in a twin, the function itself stays right."""
+    but their bodies, so that no other function can tell, whether it is tried without their answers, and whether these
+    alone refuse it. Where the wrong body stands in a twin, the function itself stays right."""
 
     name: str
     changes: tuple[Change, ...]
     functions: frozenset[str]
     in_bodies: bool
     bare: bool
+    by_answers: bool
     twin: Twin | None = None
 
 
@@ -133,9 +136,32 @@ def without_bodies(sources: Sources, texts: Texts, functions: Container[str]) ->
     return {**texts, **made}
 
 
+def without_search(sources: Sources, texts: Texts, functions: Container[str]) -> Texts:
+    """The texts of all source files, those in `texts` as they are there, in which no tactic searches for a goal of
+    these functions that has no answer. Each line stays where it is."""
+    made: Texts = {}
+    for file in sources.texts:
+        text = texts.get(file, sources.texts[file])
+        lines = text.split("\n")
+        for path, it in sources.functions(file, text).items():
+            if path in functions:
+                head = "\n".join(lines[it.first - 1 : it.body])
+                lines[it.first - 1 : it.body] = searching_nothing(head, it.name).split("\n")
+        made[file] = "\n".join(lines)
+    return {**texts, **made}
+
+
+def searching_nothing(head: str, name: str) -> str:
+    """The text of a function to the line with the brace of its body, where tactics search for nothing."""
+    found = TACTIC.search(head)
+    if found:
+        return head.replace(found[0], "#[tactic(none)]" + "\n" * found[0].count("\n"))
+    return re.sub(rf"(?m)^( *)(?=(?:[a-z][^\n]* )?fn {name}\b)", r"\1#[tactic(none)] ", head, count=1)
+
+
 def changes_of(text: str) -> tuple[Change, ...]:
-    """The pairs of an edit's text: lines `file: PATH`, `old: TEXT`, `new: TEXT`. A line `without answers` may stand
-    beside them, and below the path of a proof file lines `new: TEXT` alone."""
+    """The pairs of an edit's text: lines `file: PATH`, `old: TEXT`, `new: TEXT`. A line `without answers` or `by
+    answers` may stand beside them, and below the path of a proof file lines `new: TEXT` alone."""
     file: str | None = None
     old: str | None = None
     found: list[Change] = []
@@ -278,7 +304,9 @@ def read_edit(name: str, text: str, sources: Sources) -> Edit:
         raise BadEdit("it changes no function")
     if any(is_of_proofs(file) and not any(is_own_proof(file, it) for it in functions) for file in texts):
         raise BadEdit("it changes a proof of a function that it doesn't change")
-    return Edit(name, changes, frozenset(functions), in_bodies, WITHOUT_ANSWERS in text.split("\n"))
+    words = text.split("\n")
+    bare, with_answers = WITHOUT_ANSWERS in words, any(is_of_proofs(it.file) for it in changes)
+    return Edit(name, changes, frozenset(functions), in_bodies, bare, BY_ANSWERS in words or with_answers and not bare)
 
 
 def changed_functions(sources: Sources, file: str, text: str) -> set[str]:
