@@ -5,9 +5,6 @@ ghost use Rattle.turn_steps.specs.Writing as spec;
 use std::io::Write;
 use trace_commands::write_bytes;
 
-/// So many bytes of a text are kept before they are written.
-const MOST_KEPT: usize = 65_536;
-
 /// Writes a text that has grown long, where all before it was written, notes whether this was too, and keeps none of it. Fewer than
 /// 65,536 bytes of a text are kept, however long that is.
 pub fn write_long<W: Write>(writer: &mut W, whole: &mut bool, text: &mut Vec<u8>)
@@ -15,6 +12,7 @@ pub fn write_long<W: Write>(writer: &mut W, whole: &mut bool, text: &mut Vec<u8>
         → spec.IsWrittenBut text.new.items whole.new first (W.contents writer.new) told }
     ensures kept { vec_len text.new < 65536 }
 {
+    const MOST_KEPT: usize = 65_536;
     if text.len() < MOST_KEPT {
         return;
     }
