@@ -240,9 +240,9 @@ fn refuse_all(
     plain: &PlainFlat,
     entries: &[Entry],
 ) -> Result<(), Fail> {
-    for entry in entries {
+    for (place, entry) in entries.iter().enumerate() {
         if let Some(refusal) = plain.refusal(alloc, *entry)? {
-            assert_eq!(rt; flat.apply(*entry), Err(refusal));
+            assert_eq!(rt; flat.apply(*entry), Err(refusal), "entry {place}");
         }
     }
     Ok(())
