@@ -23,11 +23,10 @@ from collections.abc import Iterator
 from functools import partial
 from pathlib import Path
 
-from common import ROOT, Check, Script, called, called_bytes, called_well, left_out, there
+from common import ROOT, Check, Script, called_bytes, called_tool, called_well, left_out, there
 
 # What a check is of, and what is wrong or None
 Results = Iterator[Check]
-TOOL = ROOT / "tools" / "image-of"
 PROGRAMS = ROOT / "tests" / "c"
 ARITHMETIC = ROOT / "tools" / "loops" / "image_of" / "sources" / "arithmetic.c"
 # Programs of tests/c and their further sources.
@@ -147,7 +146,7 @@ def wrong_report(command: list[str], image: str, lines: list[str]) -> str | None
 
 
 def image_of(words: list[str | Path]) -> tuple[str, str, int]:
-    done = called([sys.executable, str(TOOL), *map(str, words)])
+    done = called_tool("image-of", *words)
     return done.stdout, done.stderr, done.returncode
 
 

@@ -10,12 +10,17 @@ With `--only WORD` those parts run whose name has the word. Where there is none 
 has it.
 """
 
+import contextlib
+import multiprocessing
+import os
 import subprocess
 import sys
-from collections.abc import Callable, Iterable, Iterator, Sequence
-from functools import wraps
+import tempfile
+from collections.abc import Callable, Iterable, Iterator, Mapping, Sequence
+from functools import cache, wraps
+from importlib import import_module
 from pathlib import Path
-from typing import Any, ParamSpec, TypeVar
+from typing import IO, Any, ParamSpec, TypeVar
 
 # A check: what it shows, and what is wrong or None
 Check = tuple[str, str | None]
@@ -28,6 +33,7 @@ ROOT = Path(__file__).resolve().parent.parent
 # A called program takes at most so many seconds; one that takes longer is ended, and has the status that `timeout`
 # gives.
 SECONDS, TOO_LONG = 600, 124
+FORK = multiprocessing.get_context("fork")
 
 
 class Script:
@@ -158,6 +164,57 @@ def called_well(words: Sequence[str | bytes | Path], given: str | None = None, *
     if done.returncode:
         raise OSError(f"{' '.join(map(str, words))} ended with {done.returncode}: {done.stdout}{done.stderr}")
     return done.stdout
+
+
+@cache
+def main_of(tool: str) -> Callable[[], int]:
+    """The `main` that the file of a tool calls. At its import one reads by which name it is called."""
+    words, sys.argv = sys.argv, [tool]
+    if str(ROOT / "tools") not in sys.path:
+        sys.path.insert(0, str(ROOT / "tools"))
+    main: Callable[[], int] = import_module(f"loops.commands.{tool.replace('-', '_')}").main
+    sys.argv = words
+    return main
+
+
+def imported(*modules: str) -> None:
+    """Imports what a tool imports late, so that not each call of it does. What isn't installed is left to the tool."""
+    for name in modules:
+        with contextlib.suppress(ImportError):
+            import_module(name)
+
+
+def called_tool(tool: str, *words: str | Path, given: str = "", cwd: str | Path = ".",
+                env: Mapping[str, str] | None = None, seconds: float = SECONDS) -> subprocess.CompletedProcess[str]:
+    """What a tool makes of an input, as `called` with its file. Here it is a child of this process, which imports it
+    once, so that no Python has to begin for each call."""
+    main = main_of(tool)
+    with tempfile.TemporaryFile() as stdin, tempfile.TemporaryFile() as stdout, tempfile.TemporaryFile() as stderr:
+        stdin.write(given.encode())
+        stdin.seek(0)
+        child = FORK.Process(target=as_tool, args=(main, [tool, *map(str, words)], (stdin, stdout, stderr), cwd, env))
+        child.start()
+        child.join(seconds)
+        status = TOO_LONG if child.exitcode is None else child.exitcode
+        child.kill()
+        child.join()
+        said = [(stream.seek(0), text_of(stream.read()))[1] for stream in (stdout, stderr)]
+    return subprocess.CompletedProcess([tool, *words], status, said[0],
+                                       said[1] + (told_late(seconds) if status == TOO_LONG else ""))
+
+
+def as_tool(main: Callable[[], int], words: list[str], streams: Sequence[IO[bytes]], cwd: str | Path,
+            env: Mapping[str, str] | None) -> None:
+    """Is the tool, with these words, standard streams, folder and environment."""
+    for number, stream in enumerate(streams):
+        os.dup2(stream.fileno(), number)
+    sys.stdin = open(0, encoding="utf-8", closefd=False)
+    os.chdir(cwd)
+    if env is not None:
+        os.environ.clear()
+        os.environ.update(env)
+    sys.argv = words
+    sys.exit(main())
 
 
 def beside(command: Sequence[str], name: str) -> Path | None:

@@ -21,7 +21,7 @@ from collections.abc import Iterator
 from functools import partial
 from pathlib import Path
 
-from common import ROOT, Check, Script, beside, called, differs, left_out, there
+from common import ROOT, Check, Script, beside, called, called_tool, differs, left_out, there
 
 sys.path.insert(0, str(ROOT / "tools"))
 
@@ -249,7 +249,13 @@ def refused_back() -> Iterator[Check]:
 
 
 def tool(name: str, text: str, *words: str) -> tuple[str, str, int]:
-    done = called([ROOT / "tools" / name, *words], text)
+    done = called_tool(name, *words, given=text)
+    return done.stdout, done.stderr, done.returncode
+
+
+def by_file(name: str, *words: str) -> tuple[str, str, int]:
+    """The same of a tool without an input, called by its file."""
+    done = called([ROOT / "tools" / name, *words], "")
     return done.stdout, done.stderr, done.returncode
 
 
@@ -309,7 +315,7 @@ def by_hand() -> Iterator[Check]:
                            told.over("caches").causer, told.over("plain").verdict)
     yield "what dependences say", differs(said_of_dependences, (13, 27, [0, 1, 1, 0, 0], 0x34, "never"))
     for name in TOOLS:
-        out, errors, status = tool(name, "", "--help")
+        out, errors, status = by_file(name, "--help")
         yield (f"tools/{name} --help",
                None if (errors, status) == ("", 0) and out.startswith("usage: ") and len(out.split()) > 20
                else f"got {out!r}, {errors!r}")
@@ -319,7 +325,7 @@ def by_hand() -> Iterator[Check]:
         yield (f"tools/definitions {' '.join(words)}, which nobody reads",
                differs(unread("definitions", *words), ("", UNREAD)))
     for name in ("build", "definitions"):
-        out, errors, status = tool(name, "", "one", "two")
+        out, errors, status = by_file(name, "one", "two")
         yield (f"tools/{name} with two words",
                None if (out, status) == ("", 2) and errors.startswith("usage: ")
                else f"got {out!r}, {errors!r}, {status}")

@@ -20,7 +20,7 @@ from collections.abc import Iterator
 from functools import partial
 from pathlib import Path
 
-from common import ROOT, Check, Script, beside, called, called_bytes, differs, left_out, there
+from common import ROOT, Check, Script, beside, called, called_bytes, called_tool, differs, left_out, there
 
 # What a check is of, and what is wrong or None; the words of a command line, how the loop ends, and the bytes of its
 # variables then
@@ -124,7 +124,7 @@ def do(*command: str | Path, cwd: Path) -> None:
 
 
 def image_of(folder: Path, *given: str | Path) -> tuple[str, str, int]:
-    done = called([sys.executable, TOOLS / "image-of", *map(str, given)], cwd=folder)
+    done = called_tool("image-of", *given, cwd=folder)
     return done.stdout, done.stderr, done.returncode
 
 
@@ -396,7 +396,7 @@ def whole_way(command: list[str], folder: Path) -> Results:
         yield f"what it was made with, by {compiler}", None if made and compiler in made[1] else f"got {made}"
         done = called([replay, "caches", "2"], image + "turns" + " 0 1" * 200 + "\n")
         traced = image + done.stdout[there(re.search(r"(?m)^trace ", done.stdout)).start():]
-        told = [called([TOOLS / name, "--why", why], traced).stdout for name in ("named", "picture")]
+        told = [called_tool(name, "--why", why, given=traced).stdout for name in ("named", "picture")]
         found = set(re.findall(r"(?m)^pc .* (\S+:\d+) [ls]w ", told[0]))
         yield (f"the lines in the report, by {compiler}",
                None if found == {f"own_counters.c:{load}", f"own_counters.c:{store}"} else f"got {found}")

@@ -23,7 +23,7 @@ from functools import partial
 from pathlib import Path
 from typing import NamedTuple
 
-from common import ROOT, Check, Script, beside, called, called_bytes, called_well, differs, left_out, there
+from common import ROOT, Check, Script, beside, called_bytes, called_tool, called_well, differs, left_out, there
 
 sys.path.insert(0, str(ROOT / "tools"))
 
@@ -34,13 +34,12 @@ from loops.loops_of.emulator import Entries, Run  # noqa: E402
 PROGRAMS = Path(__file__).with_suffix("")
 EXAMPLES = ROOT / "examples" / "programs"
 SOURCES = [*sorted(PROGRAMS.glob("*.c")), *sorted(PROGRAMS.glob("*.cpp")), *sorted(EXAMPLES.glob("*.c"))]
-TOOL = ROOT / "tools" / "loops-of"
 SEEDS = (1, 2, 3, 5, 6, 9, 11, 12, 13, 14)                  # of random programs
 
 
 def loops_of(*words: object, seconds: int = 120) -> tuple[str, str, int]:
     """What the tool prints, what it says on standard error, and its status."""
-    done = called([TOOL, *map(str, words)], seconds=seconds)
+    done = called_tool("loops-of", *map(str, words), seconds=seconds)
     return done.stdout, done.stderr, done.returncode
 
 
@@ -285,7 +284,7 @@ def frames() -> Iterator[Check]:
 
 # --- Planted mistakes ------------------------------------------------------------
 
-def gains() -> Iterator[Check]:
+def gains(folder: Path) -> Iterator[Check]:
     """Plain loops gain what the same loops by hand gain on four cores, within a tenth: but for the list, whose next
     node is one of the values that go around."""
     from loops import Programs
@@ -293,17 +292,17 @@ def gains() -> Iterator[Check]:
         left_out("the gains of plain loops", "gain wasn't built beside the program that is tested")
         return
     source = PROGRAMS / "plain.c"
+    told = loops_of("--version", 1, "--heap", 0, "--stack", 4096, "--loop", "all", "--out", folder / "gains", source)
     for number, line in enumerate(source.read_text().splitlines(), 1):
         name = line.partition(" // ")[2]
         if name:
-            image, errors, _ = loops_of("--version", 1, "--heap", 0, "--stack", 4096, "--loop", f"plain.c:{number}",
-                                      source)
+            image = (folder / "gains" / f"plain_{number}.image").read_text()
             by_hand, plain = ({run.store: there(run.gain) for run in Programs().gain(text, 4).runs if run.cores == 4}
                               for text in ((ROOT / "examples" / f"{name}.image").read_text(), image))
             far = {store: (gain, by_hand[store]) for store, gain in plain.items()
                    if abs(gain - by_hand[store]) > 0.1 * by_hand[store]}
             yield (f"the gains of {name}", None if bool(far) == (name == "list_walk") and len(plain) == 2
-                   else f"got {far}, {errors}")
+                   else f"got {far}, {told}")
 
 
 def answer_of(source: Path, line: str, folder: Path, kit: Kit | None = None, **choice: int) -> str:
@@ -433,9 +432,9 @@ def main() -> int:
         return 0
     with tempfile.TemporaryDirectory() as folder, tempfile.TemporaryDirectory() as room:
         furnished(Path(room), script.command())
-        own, shared = (natives, same, random_programs, refusals, requests), (chunks, names, frames, gains)
-        script.run(listings, *[partial(part, Path(folder)) for part in own], *shared,
-                   *[partial(part, Path(folder)) for part in (wrong_plugins, wrong_passes, wrong_images)])
+        own, alone = (natives, same, random_programs, refusals, requests), (chunks, names, frames)
+        script.run(listings, *[partial(part, Path(folder)) for part in own], *alone,
+                   *[partial(part, Path(folder)) for part in (gains, wrong_plugins, wrong_passes, wrong_images)])
     return script.ended()
 
 

@@ -19,7 +19,7 @@ from functools import partial, wraps
 from pathlib import Path
 from typing import Any
 
-from common import ROOT, Check, Script, called
+from common import ROOT, Check, Script, called, called_tool
 from why import attempts
 
 SVG = "{http://www.w3.org/2000/svg}"
@@ -81,7 +81,7 @@ def picture(folder: str, report: str, *words: str, text: str = IMAGE + TRACE,
             **more: Any) -> subprocess.CompletedProcess[str]:
     lines = [f"attempt {head} done 0 {end}\n" for head, end in attempts(text[text.index("trace "):].splitlines()[1:])]
     why = stub(folder, "why", report + "".join(lines), **more)
-    return called([ROOT / "tools" / "picture", "--why", why, *words], text)
+    return called_tool("picture", "--why", why, *words, given=text)
 
 
 def svg(folder: str, report: str, *words: str, text: str = IMAGE + TRACE) -> tuple[list[str], list[str]]:
@@ -226,7 +226,7 @@ def names(folder: str) -> Iterator[Claim]:
     """The same of tools/named."""
     def named(report: str, *words: str, **more: Any) -> subprocess.CompletedProcess[str]:
         why = stub(folder, "why", report, **more)
-        return called([ROOT / "tools" / "named", "--why", why, *words], IMAGE + TRACE)
+        return called_tool("named", "--why", why, *words, given=IMAGE + TRACE)
 
     report = HURT + "also 4 silent load 3 00000004 store 2 00000014 at 00000080 4\nvain 4 hurt\n" + SUMS + KIND + TOTAL
     yield "names, and what a violation says", named(report, "--say").stdout == NAMED
@@ -251,8 +251,8 @@ def dependences(folder: str) -> Iterator[Claim]:
 
     def named(output: str, *words: str, **more: Any) -> tuple[str, str, int]:
         stub(programs, "depends", output, **more)
-        done = called([ROOT / "tools" / "named", "--depends", *words], IMAGE,
-                      env={**os.environ, "LOOPS_PROGRAMS": str(programs)})
+        done = called_tool("named", "--depends", *words, given=IMAGE,
+                           env={**os.environ, "LOOPS_PROGRAMS": str(programs)})
         return done.stdout, done.stderr, done.returncode
 
     dep = "dep store 00000014 load 00000004 times 1 distance 1 1 at 00000040 1 first 0 1 stored 2 of 4 loaded 1 of 4"
@@ -276,7 +276,7 @@ def traces(folder: str) -> Iterator[Claim]:
     image.write_text(IMAGE)
 
     def traced(*words: str) -> tuple[str, str, int]:
-        done = called([ROOT / "tools" / "trace", image, *words], env={**os.environ, "LOOPS_PROGRAMS": str(programs)})
+        done = called_tool("trace", image, *words, env={**os.environ, "LOOPS_PROGRAMS": str(programs)})
         return done.stdout, done.stderr, done.returncode
 
     stub(programs, "trace_cli", "end done 2\ncounts 2 1 1 2\n" + TRACE)

@@ -18,7 +18,7 @@ from collections.abc import Iterator
 from functools import partial
 from pathlib import Path
 
-from common import ROOT, Check, Script, called, differs, left_out, there
+from common import ROOT, Check, Script, called_tool, differs, imported, left_out, there
 
 SVG = "{http://www.w3.org/2000/svg}"
 NAMES = ("store cores steps gain useful lost dropped waiting idle restarts true silent false buffer nothomefree noway "
@@ -71,7 +71,7 @@ def text_of(rows: str) -> str:
 
 
 def plot(*words: str | Path, text: str = "") -> tuple[str, str, int]:
-    done = called([ROOT / "tools" / "plot", *words], text)
+    done = called_tool("plot", *words, given=text)
     return done.stdout, done.stderr, done.returncode
 
 
@@ -411,6 +411,7 @@ def depends(folder: str) -> Iterator[Check]:
 
 
 def main() -> int:
+    imported("matplotlib.pyplot")
     script = Script()
     with tempfile.TemporaryDirectory() as folder:
         words = list(files(folder))

@@ -8,14 +8,13 @@ What the options do is compared with the command line, where a compiler for RISC
 a line says so. Exits with 1 where a check failed.
 """
 
-import os
 import sys
 import tempfile
 from collections.abc import Iterator
 from functools import partial
 from pathlib import Path
 
-from common import ROOT, Check, Script, called, left_out
+from common import ROOT, Check, Script, called_tool, left_out
 
 Results = Iterator[Check]
 BODY = ("#ifndef STEP\n#define STEP 1\n#endif\nunsigned sums[4];\nvoid body(unsigned epoch) { sums[epoch & 3] += STEP; "
@@ -48,7 +47,7 @@ TAKEN = [
 
 
 def image_of(folder: Path, *words: str) -> tuple[str, str, int]:
-    done = called([str(ROOT / "tools" / "image-of"), *words], cwd=folder, env={**os.environ, "PYTHONUTF8": "1"})
+    done = called_tool("image-of", *words, cwd=folder)
     return done.stdout, done.stderr, done.returncode
 
 

@@ -25,7 +25,7 @@ from functools import wraps
 from pathlib import Path
 from xml.etree import ElementTree
 
-from common import ROOT, Check, Script, beside, called, called_well, differs, left_out
+from common import ROOT, Check, Script, beside, called, called_tool, called_well, differs, imported, left_out
 from packages import has_module
 from view import driver, find_selenium
 
@@ -127,7 +127,7 @@ def study(folder: Path, text: str, programs: Path | None, *further: str, out: st
     plan = folder / "plan.toml"
     plan.write_text(text, encoding="utf-8")
     env = {**os.environ, **({"LOOPS_PROGRAMS": str(programs)} if programs else {})}
-    done = called(words_of(plan, folder / out, *further), env=env, cwd=folder)
+    done = called_tool("study", *words_of(plan, folder / out, *further)[1:], env=env, cwd=folder)
     return without_progress(done.stdout + done.stderr), done.returncode
 
 
@@ -484,6 +484,7 @@ def plans(folder: Path, _: Path) -> Iterator[Check]:
 
 def main() -> int:
     find_selenium()
+    imported("jsonschema")
     script = Script()
     with tempfile.TemporaryDirectory() as room:
         programs = furnished(Path(room), script.command())

@@ -26,10 +26,16 @@ class Checker:
     def __init__(self, program: str, room: Path) -> None:
         self.words, self.room = [program, "--cache-dir", str(room / "cache")], room
 
-    def says(self, *words: str) -> str | None:
+    def says(self, *words: str | Path) -> str | None:
         """What is wrong with packages or files, or None."""
         done = called([*self.words, *words], cwd=ROOT)
         return (done.stdout + done.stderr).strip() or f"status {done.returncode}" if done.returncode else None
+
+    def as_module(self, program: Path) -> Path:
+        """A copy of a program that has a name of its own among modules, of which a call takes many."""
+        copy = self.room / f"{'_of_'.join(reversed(program.relative_to(ROOT).parts)).replace('-', '_')}.py"
+        shutil.copy(program, copy)
+        return copy
 
 
 def packages() -> list[str]:
@@ -53,20 +59,19 @@ def modules(folder: str) -> list[Path]:
 def tools(checker: Checker) -> Iterator[Check]:
     """The package, each program and module beside it, and one that is wrong."""
     yield "packages", checker.says(*(word for name in packages() for word in ("-p", name)))
-    for path in [*sorted((ROOT / "tools").glob("*.py")), *programs("tools")]:
-        yield path.name, checker.says(str(path))
+    beside = [*sorted((ROOT / "tools").glob("*.py")), *map(checker.as_module, programs("tools"))]
+    yield "the programs and modules of tools/", checker.says(*beside)
     wrong = checker.room / "wrong.py"
     wrong.write_text(WRONG, encoding="utf-8")
-    said = checker.says(str(wrong)) or ""
+    said = checker.says(*beside, wrong) or ""
     yield "a wrong program is refused", None if "[no-untyped-def]" in said and "[attr-defined]" in said else repr(said)
 
 
 def scripts(checker: Checker) -> Iterator[Check]:
-    """The modules of tests/ and bench/ in one, and each program, whose names are often the same."""
+    """The modules and programs of tests/, and those of bench/."""
     for folder in ("tests", "bench"):
-        yield f"the modules of {folder}/", checker.says("--follow-imports", "silent", *map(str, modules(folder)))
-        for path in programs(folder):
-            yield str(path.relative_to(ROOT)), checker.says("--follow-imports", "silent", str(path))
+        yield f"the modules and programs of {folder}/", checker.says(
+            "--follow-imports", "silent", *modules(folder), *map(checker.as_module, programs(folder)))
 
 
 def main() -> int:

@@ -16,7 +16,7 @@ from collections.abc import Iterable, Iterator
 from functools import partial
 from pathlib import Path
 
-from common import ROOT, Check, Script, beside, called, differs, left_out
+from common import ROOT, Check, Script, beside, called_tool, differs, left_out
 
 # What a check is of, and what is wrong or None
 Results = Iterator[Check]
@@ -216,8 +216,7 @@ def stub(folder: Path | str, name: str, output: str, error: str = "", status: in
 
 def verdict(folder: Path | str, image: Path, *words: str | Path) -> tuple[str, str, int]:
     """What the tool prints, on one line, with the programs of a folder; its error line and its status."""
-    done = called([ROOT / "tools" / "verdict", image, *words],
-                  env={"PATH": "/usr/bin:/bin", "LOOPS_PROGRAMS": str(folder)})
+    done = called_tool("verdict", image, *words, env={"PATH": "/usr/bin:/bin", "LOOPS_PROGRAMS": str(folder)})
     return " ".join(done.stdout.split()), done.stderr, done.returncode
 
 
@@ -439,7 +438,7 @@ def line_of(text: str, words: str) -> int:
 
 def compiled(folder: Path | str, source: Path, compiler: str, *words: str) -> Path | None:
     """The image of a source with lines, or None where something isn't installed."""
-    done = called([ROOT / "tools" / "image-of", "--compiler", compiler, "-g", *words, source])
+    done = called_tool("image-of", "--compiler", compiler, "-g", *words, source)
     if done.returncode:
         return None
     path = Path(folder, f"{source.stem}.image")
@@ -498,7 +497,7 @@ def chunk_of_a_program(folder: Path | str) -> Results:
     source.write_text(NEIGHBOURS + "int main(void)\n{\n    for (unsigned e = 0; e < 64; e++)\n        body(e);\n"
                                    "    return 0;\n}\n")
     words = ["--loop", f"program.c:{line_of(source.read_text(), 'for (unsigned e = 0')}", str(source)]
-    done = called([ROOT / "tools" / "loops-of", *words], env={"PATH": "/usr/bin:/bin", "LOOPS_PROGRAMS": str(folder)})
+    done = called_tool("loops-of", *words, env={"PATH": "/usr/bin:/bin", "LOOPS_PROGRAMS": str(folder)})
     if done.returncode:
         left_out("the verdict on neighbours in a program", "tools/loops-of lacks something")
         return
@@ -542,7 +541,7 @@ def examples(folder: Path | str, command: list[str]) -> Results:
     yield from chunks(folder)
     yield from chunk_of_a_program(folder)
     source, image = ROOT / "examples" / "c" / "own_counters.c", Path(folder, "own_counters.image")
-    made = called([ROOT / "tools" / "image-of", "-g", source])
+    made = called_tool("image-of", "-g", source)
     if made.returncode:
         left_out("lines of the source", "tools/image-of lacks something")
         return

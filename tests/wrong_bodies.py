@@ -233,10 +233,10 @@ EDITS: dict[str, tuple[Sequence[Pair], str]] = {
     "a_step_with_a_long_name_is_renamed": (
         [(f"let {LONG_STEP} = next(n);\n    next({LONG_STEP})", "let first = next(n);\n    next(first)")],
         f"FAILED, misfit: ./proofs/{LONG_NAME}"),
-    "next_but_one_renames_a_step_in_its_answers_too": (
-        [("let one = next(n);\n    next(one)", "let first = next(n);\n    next(first)"),
-         ("c.next-one.ensures", "c.next-first.ensures", PROOF)],
-        "FAILED, NOT REFUSED by a message at next_but_one: proved"),
+    "a_step_with_a_long_name_is_renamed_in_its_answers_too": (
+        [(f"let {LONG_STEP} = next(n);\n    next({LONG_STEP})", "let first = next(n);\n    next(first)"),
+         (f"c.next-{LONG_STEP}.ensures", "c.next-first.ensures", f"proofs/{LONG_NAME}/Answers.antt")],
+        f"FAILED, NOT REFUSED by a message at {LONG_NAME}: proved"),
     "next_but_one_is_wrong_with_answers_that_fit": (
         [("let one = next(n);\n    next(one)", "let first = next(n);\n    next(first) + 1"),
          ("c.next-one.ensures", "c.next-first.ensures", PROOF)], "refused: "),
@@ -319,7 +319,8 @@ OF_CONTRACTS = {"next_breaks_another_function", "four_after_promises_five", "cou
 
 # What has to be told of the right body of each edit that brings answers.
 RIGHT = {
-    "next_but_one_renames_a_step_in_its_answers_too": "FAILED, NOT PROVED with its answers: ./proofs/next_but_one",
+    "a_step_with_a_long_name_is_renamed_in_its_answers_too":
+        f"FAILED, NOT PROVED with its answers: ./proofs/{LONG_NAME}",
     "next_but_one_is_wrong_with_answers_that_fit": "FAILED, NOT PROVED with its answers: ./proofs/next_but_one",
     "next_but_one_with_the_answers_of_another": "FAILED, BAD EDIT: it changes a proof of a function that it doesn't",
     "two_after_is_four_by_answers_of_its_own": "proved with its answers",
@@ -531,7 +532,7 @@ def left(top: Path, path: str, *words: str) -> str:
 
 def of_another_type(top: Path, path: str) -> Iterator[tuple[str, str, str]]:
     """What is told of two edits of which one doesn't compile, with what has to be told."""
-    said, lines, _ = told(top, path, "low")
+    said, lines, _ = told(top, path, "--built", "low")
     yield from ((name, said.get(name, "nothing"), wanted) for name, (_, wanted) in LOW_EDITS.items())
     yield "one that isn't tried, and doesn't fit", said.get(INNER["low"][0], "nothing"), "FAILED, BAD EDIT: "
     yield "the last line beside one that doesn't compile", lines[-1], "1 refused, 2 failed"
@@ -539,7 +540,7 @@ def of_another_type(top: Path, path: str) -> Iterator[tuple[str, str, str]]:
 
 def right_bodies(top: Path, path: str) -> Iterator[tuple[str, str, str]]:
     """What is told of right bodies with the answers of edits, with what has to be told, and which of them are kept."""
-    said, lines, status = told(top, path, "--right", "steps")
+    said, lines, status = told(top, path, "--built", "--right", "steps")
     for name in sorted(said.keys() | RIGHT.keys()):
         yield f"{name}, the right body", said.get(name, "nothing"), RIGHT.get(name, "no line")
     yield "the last line of right bodies", lines[-1], "2 proved, 3 failed"
@@ -552,7 +553,7 @@ def of_a_small_crate(folder: Path) -> Iterator[Check]:
     top = folder / "repository"
     repository(top)
     path = kit_of_its_own(folder)
-    said, lines, status = told(top, path, "steps")
+    said, lines, status = told(top, path, "--built", "steps")
     noted = told(top, path, "--left", "steps")[1][-1]
     told_of = {name: wanted for name, (_, wanted) in EDITS.items()} | {KNOWN[-1]: "FAILED, NO EDIT: misfits.txt has it"}
     counts = [sum(wanted.startswith(word) for wanted in told_of.values()) for word in ("refused", "FAILED", "misfit")]
