@@ -9,6 +9,7 @@ ghost use Rattle.all_schedules.specs.Settings.{loop_with};
 ghost use Rattle.all_schedules.specs.AllSchedules as spec;
 
 use crate::replay::cause_of;
+use crate::room::Room;
 use crate::schedules::every_schedule;
 use crate::settings::Settings;
 use crate::survey::survey_schedules;
@@ -21,7 +22,7 @@ use trace_commands::{CommandStop, Outcome, write_whole};
 use violations::EpochStore;
 
 /// Drives every schedule of so many turns of the image that the reader gives, and writes what they come to together. The cores are at
-/// least 1, and the room is 16 to 1,048,576 entries.
+/// least 1.
 ///
 /// The status is 0 where that was written; 2 where the image, the machine or the number of cores is refused; 3 where
 /// the history of a schedule is full, memory ran out or a write failed. With 2 and 3 one line on the error stream says which. All
@@ -36,8 +37,6 @@ pub fn do_all<S: EpochStore, R: Read, W: Write, E: Write>(
     errors: &mut E,
 ) -> u8
     requires cores { 1 ≤ cores }
-    requires least { 16 ≤ settings.room }
-    requires most { settings.room ≤ 1048576 }
     ensures outcome { ForText (R.remaining reader.old) (λ text. spec.AllAnswers S.starts S.makes S.view S.waits cores settings turns text
         (record { old = W.contents writer.old; new = W.contents writer.new }) (record { old = E.contents errors.old; new = E.contents errors.new }) result) }
     ensures taken { TakesAtMost (R.remaining reader.old) (R.remaining reader.new) (longest_image_text + 1) }
@@ -58,8 +57,6 @@ fn all_of_input<S: EpochStore, R: Read, W: Write>(
     writer: &mut W,
 ) -> Result<(), Outcome>
     requires cores { 1 ≤ cores }
-    requires least { 16 ≤ settings.room }
-    requires most { settings.room ≤ 1048576 }
     ensures outcome { ForText (R.remaining reader.old) (λ text. MatchResult result
         (λ _. spec.IsWritten S.starts S.makes S.view S.waits cores settings turns text (W.contents writer.old) (W.contents writer.new))
         (spec.IsUnwritten S.starts S.makes S.view S.waits cores settings turns text (W.contents writer.old) (W.contents writer.new))) }
@@ -80,8 +77,6 @@ fn all_of_image<S: EpochStore, W: Write>(
     writer: &mut W,
 ) -> Result<(), Outcome>
     requires cores { 1 ≤ cores }
-    requires least { 16 ≤ settings.room }
-    requires most { settings.room ≤ 1048576 }
     ensures { MatchResult result
         (λ _. spec.IsWrittenOf S.starts S.makes S.view S.waits (loop_with image cores settings) turns (W.contents writer.old) (W.contents writer.new))
         (spec.IsUnwrittenOf S.starts S.makes S.view S.waits (loop_with image cores settings) turns (W.contents writer.old) (W.contents writer.new)) }
@@ -105,12 +100,10 @@ fn print_all<S: EpochStore>(
     alloc: Global,
     image: &Image,
     cores: u32,
-    room: u32,
+    room: Room,
     turns: u32,
 ) -> Result<Vec<u8>, CommandStop>
     requires cores { IsCoreCount image.now cores }
-    requires least { 16 ≤ room }
-    requires most { room ≤ 1048576 }
     ensures { MatchResult result (λ text. spec.IsAll S.starts S.makes S.view S.waits (loop_on image.now cores room) turns text.items)
         (spec.IsAllStop S.starts S.makes S.view S.waits (loop_on image.now cores room) turns) }
 {

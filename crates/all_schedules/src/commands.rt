@@ -11,6 +11,7 @@ use crate::addresses::addresses_of;
 use crate::all::do_all;
 use crate::paced::{PaceAsked, do_paced};
 use crate::replay::do_replay;
+use crate::room::Room;
 use crate::settings::Settings;
 use crate::words::{Turns, asked_of};
 use core_threads::Gate;
@@ -30,18 +31,17 @@ use violations::PlainStore;
 /// drives every schedule of so many turns, or runs by a pace or on threads, whose turns pass this gate, and answers its status: what
 /// `asked_in` of `specs/Asked.antt` says.
 ///
-/// Any other words are refused as `usage`, with status 2, and nothing is read or written. The room is 16 to 1,048,576 entries.
+/// Any other words are refused as `usage`, with status 2, and nothing is read or written.
 pub fn work<S: AsStr, G: Gate, T: Threads + Wait + Sync, R: Read, W: Write, E: Write>(
     rt: &T,
     alloc: Global,
     words: &[S],
-    room: u32,
+    room: Room,
     gate: &G,
     reader: &mut R,
     writer: &mut W,
     errors: &mut E,
 ) -> u8
-    requires least { 16 ≤ room }
     requires most { room ≤ 1048576 }
     ensures { ForText (R.remaining reader.old) (λ text. spec.WorkAnswers (map S.text words.now) room text
         (record { old = R.remaining reader.old; new = R.remaining reader.new })
@@ -105,7 +105,6 @@ fn answer<
     errors: &mut E,
 ) -> u8
     requires turns { spec.AreTurns turns }
-    requires least { 16 ≤ settings.room }
     requires most { settings.room ≤ 1048576 }
     ensures { ForText (R.remaining reader.old) (λ text. spec.TurnsAnswer S.starts S.makes S.view S.waits S.prices S.keeps S.changes (addresses_of (map A.text waits.now)) settings turns text
         (record { old = R.remaining reader.old; new = R.remaining reader.new })
@@ -131,7 +130,7 @@ fn answer<
             let asked = settings.asked;
             let options = RunOptions {
                 cores,
-                room: settings.room,
+                room: settings.room.entries(),
                 trace: true,
             };
             do_threads::<S, G, T, R, W, E>(rt, alloc, asked, options, gate, reader, writer, errors)
@@ -149,8 +148,6 @@ fn pace_waiting<S: PricedStore, A: AsStr, R: Read, W: Write, E: Write>(
     errors: &mut E,
 ) -> u8
     requires cores { 1 ≤ asked.cores }
-    requires least { 16 ≤ asked.settings.room }
-    requires most { asked.settings.room ≤ 1048576 }
     ensures outcome { ForText (R.remaining reader.old) (λ text.
         Conclusion (IsPacedOutcome S.starts S.makes S.view S.waits S.prices S.keeps (addresses_of (map A.text waits.now)) asked.pace asked.cores asked.settings text (W.contents writer.old) (W.contents writer.new)) (E.contents errors.old) (E.contents errors.new) result) }
     ensures taken { TakesAtMost (R.remaining reader.old) (R.remaining reader.new) (longest_image_text + 1) }

@@ -1,11 +1,11 @@
 //! What the run at even speed makes.
-ghost use Rattle.std.specs.Prelude.{◌≤◌, IfOk, IfErr};
+ghost use Rattle.std.specs.Prelude.{IfOk, IfErr};
 ghost use Rattle.violations.specs.Rule.{IsCoreCount};
-ghost use Rattle.homefree.specs.Room.{most_room};
 ghost use Rattle.even_speed.specs.Even.{pacing_of};
 ghost use Rattle.all_schedules.specs.Made.{loop_on};
 ghost use Rattle.all_schedules.specs.Evenly as spec;
 
+use crate::room::Room;
 use even_speed::{Ran, Terms, drive_evenly};
 use homefree::{Book, TurnFault};
 use run_ledger::Shares;
@@ -25,24 +25,21 @@ pub struct EvenRun<S: EpochStore> {
     pub ran: Ran,
 }
 
-/// Runs a loop at even speed, on these terms, from an empty history on, over a fresh store, up to its end. The cores are at least 1, and
-/// the room is 16 to `homefree::MOST_ROOM` entries.
+/// Runs a loop at even speed, on these terms, from an empty history on, over a fresh store, up to its end. The cores are at least 1.
 ///
 /// `HistoryFull`: a turn found too few free entries. `NoMemory`: memory ran out.
 pub fn run_evenly<S: PricedStore>(
     alloc: Global,
     image: &Image,
     cores: u32,
-    room: u32,
+    room: Room,
     terms: &Terms,
 ) -> Result<EvenRun<S>, TurnFault>
     requires cores { IsCoreCount image.now cores }
-    requires least { 16 ≤ room }
-    requires most { room ≤ most_room }
     ensures made { IfOk result (λ run. spec.IsEvenRun S.starts S.makes S.view S.waits S.keeps (pacing_of S.prices terms.now) (loop_on image.now cores room) run.schedule.items run.ran run.book) }
     ensures fault { IfErr result (spec.IsEvenFault S.starts S.makes S.view S.waits S.keeps (pacing_of S.prices terms.now) (loop_on image.now cores room)) }
 {
-    let made: Result<(Book<S>, Shares), _> = Book::new(alloc, image, cores, room);
+    let made: Result<(Book<S>, Shares), _> = Book::new(alloc, image, cores, room.entries());
     let Ok((mut book, mut shares)) = made else {
         return Err(TurnFault::NoMemory);
     };

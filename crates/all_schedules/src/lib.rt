@@ -15,6 +15,7 @@ mod laws;
 mod paced;
 mod print;
 mod replay;
+mod room;
 mod schedules;
 mod seeded;
 mod settings;
@@ -40,6 +41,7 @@ pub use laws::{
 };
 pub use paced::do_paced;
 pub use replay::do_replay;
+pub use room::Room;
 pub use schedules::every_schedule;
 pub use seeded::{SeededRun, run_seeded};
 pub use settings::Settings;

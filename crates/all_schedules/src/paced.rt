@@ -15,6 +15,7 @@ ghost use Rattle.all_schedules.specs.Paced as spec;
 use crate::even::run_evenly;
 use crate::holds::{holds_at, holds_in_order};
 use crate::print::print_book;
+use crate::room::Room;
 use crate::seeded::run_seeded;
 use crate::settings::Settings;
 use crate::text::push_turns;
@@ -46,13 +47,11 @@ pub struct PaceAsked {
     pub pace: Pace,
     /// At least 1.
     pub cores: u32,
-    /// Their room is 16 to 1,048,576 entries.
     pub settings: Settings,
 }
 
 /// Runs the image that the reader gives by this pace, at even speed with loads at these addresses of code that wait, over a fresh store, and
-/// writes the line of its turns, and below it what `do_replay` writes of them. The cores are at least 1, and the room is 16 to 1,048,576
-/// entries.
+/// writes the line of its turns, and below it what `do_replay` writes of them. The cores are at least 1.
 ///
 /// The status is 0 where the loop is done or exited, or the most turns were drawn before; 1 where an epoch faulted; 2 where the image,
 /// the machine or the number of cores is refused; 3 where the history is full, memory ran out or a write failed. With 2 and 3 one line on the error
@@ -66,8 +65,6 @@ pub fn do_paced<S: PricedStore, R: Read, W: Write, E: Write>(
     errors: &mut E,
 ) -> u8
     requires cores { 1 ≤ asked.cores }
-    requires least { 16 ≤ asked.settings.room }
-    requires most { asked.settings.room ≤ 1048576 }
     ensures outcome { ForText (R.remaining reader.old) (λ text.
         Conclusion (spec.IsPacedOutcome S.starts S.makes S.view S.waits S.prices S.keeps addresses.now asked.pace asked.cores asked.settings text (W.contents writer.old) (W.contents writer.new)) (E.contents errors.old) (E.contents errors.new) result) }
     ensures taken { TakesAtMost (R.remaining reader.old) (R.remaining reader.new) (longest_image_text + 1) }
@@ -84,8 +81,6 @@ fn paced_input<S: PricedStore, R: Read, W: Write>(
     writer: &mut W,
 ) -> Outcome
     requires cores { 1 ≤ asked.cores }
-    requires least { 16 ≤ asked.settings.room }
-    requires most { asked.settings.room ≤ 1048576 }
     ensures outcome { ForText (R.remaining reader.old) (λ text.
         spec.IsPacedOutcome S.starts S.makes S.view S.waits S.prices S.keeps addresses.now asked.pace asked.cores asked.settings text (W.contents writer.old) (W.contents writer.new) result) }
     ensures taken { TakesAtMost (R.remaining reader.old) (R.remaining reader.new) (longest_image_text + 1) }
@@ -111,8 +106,6 @@ fn paced_image<S: PricedStore, W: Write>(
     writer: &mut W,
 ) -> Outcome
     requires cores { 1 ≤ cores }
-    requires least { 16 ≤ settings.room }
-    requires most { settings.room ≤ 1048576 }
     ensures { spec.IsPacedOf S.starts S.makes S.view S.waits S.prices S.keeps addresses.now pace (loop_with image cores settings) (W.contents writer.old) (W.contents writer.new) result }
 {
     let Some(image) = runnable(image, settings.asked, cores) else {
@@ -143,11 +136,9 @@ fn show_paced<S: PricedStore>(
     pace: Pace,
     image: &Image,
     cores: u32,
-    room: u32,
+    room: Room,
 ) -> Result<(Outcome, Vec<u8>), CommandStop>
     requires cores { IsCoreCount image.now cores }
-    requires least { 16 ≤ room }
-    requires most { room ≤ 1048576 }
     ensures { MatchResult result (λ shown. spec.IsPacedText S.starts S.makes S.view S.waits S.prices S.keeps addresses.now pace (loop_on image.now cores room) shown.0 shown.1.items)
         (spec.IsPacedStop S.starts S.makes S.view S.waits S.prices S.keeps addresses.now pace (loop_on image.now cores room)) }
 {
@@ -165,11 +156,9 @@ fn show_even<S: PricedStore>(
     costs: Option<Costs>,
     image: &Image,
     cores: u32,
-    room: u32,
+    room: Room,
 ) -> Result<(Outcome, Vec<u8>), CommandStop>
     requires cores { IsCoreCount image.now cores }
-    requires least { 16 ≤ room }
-    requires most { room ≤ 1048576 }
     ensures { MatchResult result (λ shown. spec.IsPacedText S.starts S.makes S.view S.waits S.prices S.keeps addresses.now (Pace.Even costs) (loop_on image.now cores room) shown.0 shown.1.items)
         (spec.IsPacedStop S.starts S.makes S.view S.waits S.prices S.keeps addresses.now (Pace.Even costs) (loop_on image.now cores room)) }
 {
@@ -191,11 +180,9 @@ fn show_held<S: PricedStore>(
     costs: Option<Costs>,
     image: &Image,
     cores: u32,
-    room: u32,
+    room: Room,
 ) -> Result<(Outcome, Vec<u8>), CommandStop>
     requires cores { IsCoreCount image.now cores }
-    requires least { 16 ≤ room }
-    requires most { room ≤ 1048576 }
     ensures { (addresses : List ℕ) → MatchResult result (λ shown. spec.IsPacedText S.starts S.makes S.view S.waits S.prices S.keeps addresses (Pace.Held pieces costs) (loop_on image.now cores room) shown.0 shown.1.items)
         (spec.IsPacedStop S.starts S.makes S.view S.waits S.prices S.keeps addresses (Pace.Held pieces costs) (loop_on image.now cores room)) }
 {
@@ -216,11 +203,9 @@ fn show_run<S: PricedStore>(
     terms: &Terms,
     image: &Image,
     cores: u32,
-    room: u32,
+    room: Room,
 ) -> Result<(Outcome, Vec<u8>), CommandStop>
     requires cores { IsCoreCount image.now cores }
-    requires least { 16 ≤ room }
-    requires most { room ≤ 1048576 }
     ensures { MatchResult result (λ shown. spec.IsEvenText S.starts S.makes S.view S.waits S.keeps (pacing_of S.prices terms.now) (loop_on image.now cores room) shown.0 shown.1.items)
         (spec.IsEvenStop S.starts S.makes S.view S.waits S.keeps (pacing_of S.prices terms.now) (loop_on image.now cores room)) }
 {
@@ -240,11 +225,9 @@ fn show_seeded<S: PricedStore>(
     seed: u64,
     image: &Image,
     cores: u32,
-    room: u32,
+    room: Room,
 ) -> Result<(Outcome, Vec<u8>), CommandStop>
     requires cores { IsCoreCount image.now cores }
-    requires least { 16 ≤ room }
-    requires most { room ≤ 1048576 }
     ensures { (addresses : List ℕ) → MatchResult result (λ shown. spec.IsPacedText S.starts S.makes S.view S.waits S.prices S.keeps addresses (Pace.Seeded seed) (loop_on image.now cores room) shown.0 shown.1.items)
         (spec.IsPacedStop S.starts S.makes S.view S.waits S.prices S.keeps addresses (Pace.Seeded seed) (loop_on image.now cores room)) }
 {

@@ -12,6 +12,7 @@ ghost use Rattle.all_schedules.specs.Told.{IsHead};
 
 use crate::detail::Detail;
 use crate::driving::drive_schedule;
+use crate::room::Room;
 use crate::settings::Settings;
 use crate::told::{show_told, tell_turns};
 use crate::traced::{begins_trace, retrace};
@@ -27,7 +28,7 @@ use turn_steps::ShownStore;
 
 /// Replays what the reader gives below its image: the schedule of a trace, or that of lines of turns for so many cores. Takes its turns over a
 /// fresh store, on one thread, and writes what they make, the counts and the trace; above it, where that is asked for, each turn, as it is
-/// taken, and a line `end`. The cores are at least 1; where none are said, the trace says how many. The room is 16 to 1,048,576 entries.
+/// taken, and a line `end`. The cores are at least 1; where none are said, the trace says how many.
 ///
 /// The status is 0 where the loop is done or exited, or the schedule was used up before; 1 where an epoch faulted; 2 where the image, the
 /// machine, the number of cores, the trace or the lines of turns are refused; 3 where the history is full, memory ran out or a write failed; 4 where the
@@ -43,8 +44,6 @@ pub fn do_replay<S: ShownStore, R: Read, W: Write, E: Write>(
     errors: &mut E,
 ) -> u8
     requires cores { IfSome cores (λ k. 1 ≤ k) }
-    requires least { 16 ≤ settings.room }
-    requires most { settings.room ≤ 1048576 }
     ensures outcome { ForText (R.remaining reader.old) (λ text.
         Conclusion (spec.IsReplayOutcome S.starts S.makes S.view S.waits (IsHead S.starts S.makes S.view S.waits S.changes detail) cores settings text (W.contents writer.old) (W.contents writer.new)) (E.contents errors.old) (E.contents errors.new) result) }
     ensures taken { TakesAtMost (R.remaining reader.old) (R.remaining reader.new) (longest_trace_text + 1) }
@@ -62,8 +61,6 @@ fn replay_input<S: ShownStore, R: Read, W: Write>(
     writer: &mut W,
 ) -> Outcome
     requires cores { IfSome cores (λ k. 1 ≤ k) }
-    requires least { 16 ≤ settings.room }
-    requires most { settings.room ≤ 1048576 }
     ensures outcome { ForText (R.remaining reader.old) (λ text.
         spec.IsReplayOutcome S.starts S.makes S.view S.waits (IsHead S.starts S.makes S.view S.waits S.changes detail) cores settings text (W.contents writer.old) (W.contents writer.new) result) }
     ensures taken { TakesAtMost (R.remaining reader.old) (R.remaining reader.new) (longest_trace_text + 1) }
@@ -84,8 +81,6 @@ fn replay_text<S: ShownStore, W: Write>(
     writer: &mut W,
 ) -> Outcome
     requires cores { IfSome cores (λ k. 1 ≤ k) }
-    requires least { 16 ≤ settings.room }
-    requires most { settings.room ≤ 1048576 }
     requires short { length text.now ≤ longest_trace_text }
     ensures { spec.IsReplayOutcome S.starts S.makes S.view S.waits (IsHead S.starts S.makes S.view S.waits S.changes detail) cores settings text.now (W.contents writer.old) (W.contents writer.new) result }
 {
@@ -108,8 +103,6 @@ fn replay_of<S: ShownStore, W: Write>(
     writer: &mut W,
 ) -> Outcome
     requires cores { 1 ≤ cores }
-    requires least { 16 ≤ settings.room }
-    requires most { settings.room ≤ 1048576 }
     requires short { length text.now ≤ longest_trace_text }
     ensures { spec.IsLinesOutcome S.starts S.makes S.view S.waits (IsHead S.starts S.makes S.view S.waits S.changes detail) cores settings text.now (W.contents writer.old) (W.contents writer.new) result }
 {
@@ -144,13 +137,11 @@ fn replay_turns<S: ShownStore, W: Write>(
     detail: Detail,
     image: &Image,
     cores: u32,
-    room: u32,
+    room: Room,
     schedule: &[u32],
     writer: &mut W,
 ) -> Outcome
     requires cores { IsCoreCount image.now cores }
-    requires least { 16 ≤ room }
-    requires most { room ≤ 1048576 }
     requires schedule { All (λ core. core < cores) schedule.now }
     ensures { spec.IsTurnsOutcome S.starts S.makes S.view S.waits (IsHead S.starts S.makes S.view S.waits S.changes detail) (loop_on image.now cores room) schedule.now (W.contents writer.old) (W.contents writer.new) result }
 {
@@ -171,12 +162,10 @@ fn check_turns<S: ShownStore>(
     alloc: Global,
     image: &Image,
     cores: u32,
-    room: u32,
+    room: Room,
     schedule: &[u32],
 ) -> Result<(), TurnFault>
     requires cores { IsCoreCount image.now cores }
-    requires least { 16 ≤ room }
-    requires most { room ≤ 1048576 }
     requires schedule { All (λ core. core < cores) schedule.now }
     ensures made { IfOk result (λ _. AreMade S.starts S.makes S.view S.waits (loop_on image.now cores room) schedule.now) }
     ensures fault { IfErr result (IsFault S.starts S.makes S.view S.waits (loop_on image.now cores room) schedule.now) }

@@ -1,10 +1,11 @@
 //! What the schedule makes that a seed draws.
-ghost use Rattle.std.specs.Prelude.{◌≤◌, IfOk, IfErr};
+ghost use Rattle.std.specs.Prelude.{IfOk, IfErr};
 ghost use Rattle.violations.specs.Rule.{IsCoreCount};
 ghost use Rattle.all_schedules.specs.Made.{loop_on};
 ghost use Rattle.all_schedules.specs.Drawn as spec;
 
 use crate::drawing::drive_drawn;
+use crate::room::Room;
 use homefree::{Book, TurnFault};
 use run_ledger::Shares;
 use rv32_exec::Image;
@@ -21,23 +22,21 @@ pub struct SeededRun<S: EpochStore> {
 }
 
 /// Runs a loop from an empty history on, over a fresh store, by turns that SplitMix64 draws from this seed, each core as likely as
-/// another, up to the end of the loop, but at most 8,388,608 turns. The cores are at least 1, and the room is 16 to 1,048,576 entries.
+/// another, up to the end of the loop, but at most 8,388,608 turns. The cores are at least 1.
 ///
 /// `HistoryFull`: a turn found too few free entries. `NoMemory`: memory ran out.
 pub fn run_seeded<S: EpochStore>(
     alloc: Global,
     image: &Image,
     cores: u32,
-    room: u32,
+    room: Room,
     seed: u64,
 ) -> Result<SeededRun<S>, TurnFault>
     requires cores { IsCoreCount image.now cores }
-    requires least { 16 ≤ room }
-    requires most { room ≤ 1048576 }
     ensures made { IfOk result (λ run. spec.IsDrawnRun S.starts S.makes S.view S.waits (loop_on image.now cores room) seed run.schedule.items run.book) }
     ensures fault { IfErr result (spec.IsDrawnFault S.starts S.makes S.view S.waits (loop_on image.now cores room) seed) }
 {
-    let made: Result<(Book<S>, Shares), _> = Book::new(alloc, image, cores, room);
+    let made: Result<(Book<S>, Shares), _> = Book::new(alloc, image, cores, room.entries());
     let Ok((mut book, mut shares)) = made else {
         return Err(TurnFault::NoMemory);
     };

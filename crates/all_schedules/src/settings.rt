@@ -1,9 +1,10 @@
 //! What a run is given beside its image and its cores.
+use crate::room::Room;
 use trace_commands::MachineAsked;
 
 /// The machine that the store of a run asks for, and the room of its history in entries.
 #[derive(Clone, Copy)]
 pub struct Settings {
     pub asked: MachineAsked,
-    pub room: u32,
+    pub room: Room,
 }

@@ -1,5 +1,5 @@
 //! What schedules come to together.
-ghost use Rattle.std.specs.Prelude.{◌≡◌, ◌≤◌, ◌<◌, ◌^◌, All, IfOk, IfErr, OnOk};
+ghost use Rattle.std.specs.Prelude.{◌≡◌, ◌<◌, ◌^◌, All, IfOk, IfErr, OnOk};
 ghost use Rattle.violations.specs.Rule.{IsCoreCount};
 ghost use Rattle.all_schedules.specs.Made as made_spec;
 ghost use Rattle.all_schedules.specs.Schedules.{lists_of};
@@ -7,6 +7,7 @@ ghost use Rattle.all_schedules.specs.Survey as spec;
 ghost use Rattle.all_schedules.specs.Adding as inside;
 
 use crate::driving::drive_schedule;
+use crate::room::Room;
 use homefree::{Book, TurnFault};
 use rv32_exec::Image;
 use std::alloc::{AllocError, Global};
@@ -36,20 +37,17 @@ pub struct Survey {
     pub most: Option<Extreme>,
 }
 
-/// Drives each of these schedules, and answers what they come to together. The cores are at least 1, and the room is 16 to 1,048,576
-/// entries.
+/// Drives each of these schedules, and answers what they come to together. The cores are at least 1.
 ///
 /// `HistoryFull`: a turn of one of them found too few free entries. `NoMemory`: memory ran out.
 pub fn survey_schedules<S: EpochStore>(
     alloc: Global,
     image: &Image,
     cores: u32,
-    room: u32,
+    room: Room,
     schedules: &[Vec<u32>],
 ) -> Result<Survey, TurnFault>
     requires cores { IsCoreCount image.now cores }
-    requires least { 16 ≤ room }
-    requires most { room ≤ 1048576 }
     requires schedules { All (All (λ core. core < cores)) (lists_of schedules.now) }
     ensures made { IfOk result (spec.Surveys S.starts S.makes S.view S.waits (made_spec.loop_on image.now cores room) (lists_of schedules.now)) }
     ensures fault { IfErr result (spec.IsFaultOfOne S.starts S.makes S.view S.waits (made_spec.loop_on image.now cores room) (lists_of schedules.now)) }

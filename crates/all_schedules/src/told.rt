@@ -1,5 +1,5 @@
 //! What one schedule makes, with what is printed above it.
-ghost use Rattle.std.specs.Prelude.{◌≡◌, ◌≤◌, ◌<◌, ◌++◌, ℕ, All, List, Option, Ok, IfOk, IfErr};
+ghost use Rattle.std.specs.Prelude.{◌≡◌, ◌<◌, ◌++◌, ℕ, All, List, Option, Ok, IfOk, IfErr};
 ghost use Rattle.violations.specs.Rule.{IsCoreCount};
 ghost use Rattle.turn_steps.specs.Writing.{IsWrittenBut};
 ghost use Rattle.rv32_exec.specs.declared.sequential.End.{End};
@@ -12,6 +12,7 @@ ghost use Rattle.all_schedules.specs.Told as spec;
 use crate::laws::history_is_fixed;
 use crate::print::print_book;
 use crate::replay::cause_of;
+use crate::room::Room;
 use homefree::{Book, TurnFault};
 use run_ledger::Shares;
 use rv32_image::Image;
@@ -27,13 +28,11 @@ pub(crate) fn tell_turns<S: ShownStore, W: Write>(
     alloc: Global,
     image: &Image,
     cores: u32,
-    room: u32,
+    room: Room,
     schedule: &[u32],
     writer: &mut W,
 ) -> Outcome
     requires cores { IsCoreCount image.now cores }
-    requires least { 16 ≤ room }
-    requires most { room ≤ 1048576 }
     requires schedule { All (λ core. core < cores) schedule.now }
     ensures { (end : Option End) (history : List HistoryEntry) → Makes S.starts S.makes S.view S.waits (loop_on image.now cores room) schedule.now (Ok end) history
         → spec.IsShownMade (spec.IsHead S.starts S.makes S.view S.waits S.changes Detail.Steps) (loop_on image.now cores room) schedule.now history (W.contents writer.old) (W.contents writer.new) result }
@@ -51,13 +50,11 @@ fn step_schedule<S: ShownStore, W: Write>(
     alloc: Global,
     image: &Image,
     cores: u32,
-    room: u32,
+    room: Room,
     schedule: &[u32],
     writer: &mut W,
 ) -> Result<(Book<S>, Vec<u8>, bool), TurnFault>
     requires cores { IsCoreCount image.now cores }
-    requires least { 16 ≤ room }
-    requires most { room ≤ 1048576 }
     requires schedule { All (λ core. core < cores) schedule.now }
     ensures made { IfOk result (λ told. IsMade S.starts S.makes S.view S.waits (loop_on image.now cores room) schedule.now told.0) }
     ensures head { IfOk result (λ told. spec.IsToldOf (spec.IsHead S.starts S.makes S.view S.waits S.changes Detail.Steps) (loop_on image.now cores room) schedule.now told.0.history told.1.items told.2
@@ -65,7 +62,7 @@ fn step_schedule<S: ShownStore, W: Write>(
     ensures fault { IfErr result (IsFault S.starts S.makes S.view S.waits (loop_on image.now cores room) schedule.now) }
     ensures begun { IfErr result (λ _. spec.Leaves (spec.IsHead S.starts S.makes S.view S.waits S.changes Detail.Steps) (loop_on image.now cores room) schedule.now (W.contents writer.old) (W.contents writer.new)) }
 {
-    let made: Result<(Book<S>, Shares), _> = Book::new(alloc, image, cores, room);
+    let made: Result<(Book<S>, Shares), _> = Book::new(alloc, image, cores, room.entries());
     let Ok((mut book, mut shares)) = made else {
         return Err(TurnFault::NoMemory);
     };

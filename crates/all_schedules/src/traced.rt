@@ -12,6 +12,7 @@ ghost use Rattle.all_schedules.specs.Traced as spec;
 use crate::detail::Detail;
 use crate::driving::drive_schedule;
 use crate::replay::cause_of;
+use crate::room::Room;
 use crate::settings::Settings;
 use crate::told::{show_told, tell_turns};
 use homefree::Book;
@@ -42,8 +43,6 @@ pub fn retrace<S: ShownStore, W: Write>(
     text: &[u8],
     writer: &mut W,
 ) -> Outcome
-    requires least { 16 ≤ settings.room }
-    requires most { settings.room ≤ 1048576 }
     requires short { length text.now ≤ longest_trace_text }
     ensures { spec.IsRetraceOutcome S.starts S.makes S.view S.waits (IsHead S.starts S.makes S.view S.waits S.changes detail) cores settings text.now (W.contents writer.old) (W.contents writer.new) result }
 {
@@ -87,13 +86,11 @@ fn drive_trace<S: ShownStore, W: Write>(
     detail: Detail,
     image: &Image,
     cores: u32,
-    room: u32,
+    room: Room,
     entries: &[Entry],
     writer: &mut W,
 ) -> Outcome
     requires cores { IsCoreCount image.now cores }
-    requires least { 16 ≤ room }
-    requires most { room ≤ 1048576 }
     ensures { spec.IsTraceOutcome S.starts S.makes S.view S.waits (IsHead S.starts S.makes S.view S.waits S.changes detail) (loop_on image.now cores room) entries.now (W.contents writer.old) (W.contents writer.new) result }
 {
     let Ok(schedule) = turns_of(alloc, cores, entries) else {
@@ -117,13 +114,11 @@ fn make_again<S: ShownStore>(
     alloc: Global,
     image: &Image,
     cores: u32,
-    room: u32,
+    room: Room,
     turns: &[u32],
     entries: &[Entry],
 ) -> Result<Book<S>, Outcome>
     requires cores { IsCoreCount image.now cores }
-    requires least { 16 ≤ room }
-    requires most { room ≤ 1048576 }
     requires schedule { All (λ core. core < cores) turns.now }
     requires turns { turns.now ≡ shown.turns_of cores entries.now }
     ensures made { IfOk result (λ book. IsMade S.starts S.makes S.view S.waits (loop_on image.now cores room) turns.now book) }
@@ -144,13 +139,11 @@ fn check_trace<S: ShownStore>(
     alloc: Global,
     image: &Image,
     cores: u32,
-    room: u32,
+    room: Room,
     turns: &[u32],
     entries: &[Entry],
 ) -> Result<(), Outcome>
     requires cores { IsCoreCount image.now cores }
-    requires least { 16 ≤ room }
-    requires most { room ≤ 1048576 }
     requires schedule { All (λ core. core < cores) turns.now }
     requires turns { turns.now ≡ shown.turns_of cores entries.now }
     ensures made { IfOk result (λ _. (end : Option End) × Makes S.starts S.makes S.view S.waits (loop_on image.now cores room) turns.now (Ok end) entries.now) }

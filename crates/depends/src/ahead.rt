@@ -6,6 +6,7 @@ ghost use Rattle.homefree.specs.Counted.{IsNoMore};
 ghost use Rattle.homefree.specs.Held.{HaveArrived};
 ghost use Rattle.depends.specs.Ahead as spec;
 
+use all_schedules::Room;
 use homefree::{Answer, Book, TurnFault, step};
 use run_ledger::Shares;
 use rv32_exec::{Arrived, Image};
@@ -18,22 +19,20 @@ const MOST_TURNS: u32 = 8_388_608;
 
 /// A schedule up to its first violation, if it comes to one. The epochs before the window of this one commit in order, on core 0. Then
 /// the epochs of the window start, one on each core; the last one runs as far as it comes, and then each one before it; at last they
-/// commit in order. The cores are at least 1, and the room is 16 to 1,048,576 entries.
+/// commit in order. The cores are at least 1.
 ///
 /// `AllocError`: memory ran out.
 pub fn run_ahead<S: EpochStore>(
     alloc: Global,
     image: &Image,
     cores: u32,
-    room: u32,
+    room: Room,
     later: u32,
 ) -> Result<Vec<u32>, AllocError>
     requires cores { IsCoreCount image.now cores }
-    requires least { 16 ≤ room }
-    requires most { room ≤ 1048576 }
     ensures { IfOk result (λ schedule. All (λ core. core < cores) schedule.items) }
 {
-    let made: Result<(Book<S>, Shares), _> = Book::new(alloc, image, cores, room);
+    let made: Result<(Book<S>, Shares), _> = Book::new(alloc, image, cores, room.entries());
     let Ok((mut book, mut shares)) = made else {
         return Err(AllocError);
     };

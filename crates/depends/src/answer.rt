@@ -8,7 +8,7 @@ ghost use Rattle.trace_commands.specs.Stores.{names_store};
 ghost use Rattle.depends.specs.Answers as spec;
 
 use crate::lines::print_lines;
-use all_schedules::check_stores;
+use all_schedules::{Room, check_stores};
 use rv32_image::{Image, read_image};
 use std::alloc::Global;
 use std::convert::AsStr;
@@ -16,7 +16,7 @@ use std::io::{Read, Write};
 use trace_commands::{CommandStop, Outcome, write_whole};
 
 /// Looks through what the loop of the image that the reader gives can roll back on up to so many cores, and writes a line for each pair
-/// of instructions that a dependence joins, and those of each store that the words name. The cores are at least 1, and the room is 16 to 1,048,576 entries.
+/// of instructions that a dependence joins, and those of each store that the words name. The cores are at least 1.
 ///
 /// The status is 0 where that was written; 2 where the image, the machine of a store or the number of cores is refused; 3 where memory
 /// ran out or a write failed. With 2 and 3 one line on the error stream says which. All that is written was made before the first
@@ -25,15 +25,13 @@ pub fn do_depends<S: AsStr, R: Read, W: Write, E: Write>(
     alloc: Global,
     cores: u32,
     stores: &[S],
-    room: u32,
+    room: Room,
     reader: &mut R,
     writer: &mut W,
     errors: &mut E,
 ) -> u8
     requires cores { 1 ≤ cores }
     requires stores { list_all names_store (map S.text stores.now) ≡ true }
-    requires least { 16 ≤ room }
-    requires most { room ≤ 1048576 }
     ensures outcome { ForText (R.remaining reader.old) (λ text. spec.DependsAnswers cores (map S.text stores.now) room text
         (record { old = W.contents writer.old; new = W.contents writer.new }) (record { old = E.contents errors.old; new = E.contents errors.new }) result) }
     ensures taken { TakesAtMost (R.remaining reader.old) (R.remaining reader.new) (longest_image_text + 1) }
@@ -49,14 +47,12 @@ fn answer_input<S: AsStr, R: Read, W: Write>(
     alloc: Global,
     cores: u32,
     stores: &[S],
-    room: u32,
+    room: Room,
     reader: &mut R,
     writer: &mut W,
 ) -> Result<(), Outcome>
     requires cores { 1 ≤ cores }
     requires stores { list_all names_store (map S.text stores.now) ≡ true }
-    requires least { 16 ≤ room }
-    requires most { room ≤ 1048576 }
     ensures outcome { ForText (R.remaining reader.old) (λ text. MatchResult result
         (λ _. spec.IsWritten cores (map S.text stores.now) room text (W.contents writer.old) (W.contents writer.new))
         (spec.IsUnwritten cores (map S.text stores.now) room text (W.contents writer.old) (W.contents writer.new))) }
@@ -73,13 +69,11 @@ fn answer_image<S: AsStr, W: Write>(
     image: &Image,
     cores: u32,
     stores: &[S],
-    room: u32,
+    room: Room,
     writer: &mut W,
 ) -> Result<(), Outcome>
     requires cores { 1 ≤ cores }
     requires stores { list_all names_store (map S.text stores.now) ≡ true }
-    requires least { 16 ≤ room }
-    requires most { room ≤ 1048576 }
     ensures { MatchResult result (λ _. spec.IsWrittenOf image.now cores (map S.text stores.now) room (W.contents writer.old) (W.contents writer.new))
         (spec.IsUnwrittenOf image.now cores (map S.text stores.now) room (W.contents writer.old) (W.contents writer.new)) }
 {

@@ -1,5 +1,5 @@
 //! The line of a store: whether a schedule of so many cores can violate an epoch over it.
-ghost use Rattle.std.specs.Prelude.{◌≡◌, ◌≤◌, ◌++◌, IfOk, OnOk};
+ghost use Rattle.std.specs.Prelude.{◌≡◌, ◌++◌, IfOk, OnOk};
 ghost use Rattle.violations.specs.Rule.{IsCoreCount};
 ghost use Rattle.depends.specs.Line as spec;
 
@@ -7,7 +7,7 @@ use crate::ahead::run_ahead;
 use crate::least::{Found, Grain, least_conflict};
 use crate::shown::{Met, Shown, show};
 use crate::text::{push_address, push_named, push_word};
-use all_schedules::push_turns;
+use all_schedules::{Room, push_turns};
 use dependences::Dependence;
 use rv32_exec::Image;
 use std::alloc::{AllocError, Global};
@@ -39,7 +39,7 @@ pub struct Known<'a> {
     pub epochs: u32,
 }
 
-/// What is told of a store that watches so, and up to so many cores. The cores are at least 1, and the room is 16 to 1,048,576 entries.
+/// What is told of a store that watches so, and up to so many cores. The cores are at least 1.
 ///
 /// `AllocError`: memory ran out.
 pub fn line_over<S: EpochStore>(
@@ -47,12 +47,10 @@ pub fn line_over<S: EpochStore>(
     image: &Image,
     grain: Grain,
     cores: u32,
-    room: u32,
+    room: Room,
     known: Known<'_>,
 ) -> Result<Line, AllocError>
     requires cores { IsCoreCount image.now cores }
-    requires least { 16 ≤ room }
-    requires most { room ≤ 1048576 }
     ensures { IfOk result (spec.IsLine S.starts S.makes S.view S.waits image.now grain cores room) }
 {
     match least_conflict(alloc, image, grain, cores)? {
@@ -69,13 +67,11 @@ fn line_from<S: EpochStore>(
     alloc: Global,
     image: &Image,
     cores: u32,
-    room: u32,
+    room: Room,
     from: u32,
     to: u32,
 ) -> Result<Line, AllocError>
     requires cores { IsCoreCount image.now cores }
-    requires least { 16 ≤ room }
-    requires most { room ≤ 1048576 }
     ensures { IfOk result (spec.IsFrom S.starts S.makes S.view S.waits image.now cores room) }
 {
     for later in from..to {

@@ -1,5 +1,5 @@
 //! All lines.
-ghost use Rattle.std.specs.Prelude.{◌≡◌, ◌≤◌, IfOk, OnOk, map};
+ghost use Rattle.std.specs.Prelude.{◌≡◌, IfOk, OnOk, map};
 ghost use Rattle.violations.specs.Rule.{IsCoreCount};
 ghost use Rattle.trace_commands.specs.Stores.{store_named};
 ghost use Rattle.all_schedules.specs.Stores.{RunsOn, RunsOnAll};
@@ -9,7 +9,7 @@ use crate::least::Grain;
 use crate::line::{Known, Line, line_over, push_line};
 use crate::rows::rows_of;
 use crate::text::push_rows;
-use all_schedules::store_on;
+use all_schedules::{Room, store_on};
 use dependences::{Dependence, dependences_in_order, lengths_in_order};
 use rv32_exec::Image;
 use spec_bus::CachedBus;
@@ -19,7 +19,6 @@ use trace_commands::Store;
 use violations::PlainStore;
 
 /// The lines of the dependences, and then those of each store that these words name, whose machine can run the image on so many cores.
-/// The room is 16 to 1,048,576 entries.
 ///
 /// `AllocError`: memory ran out.
 pub fn print_lines<S: AsStr>(
@@ -27,11 +26,9 @@ pub fn print_lines<S: AsStr>(
     image: &Image,
     cores: u32,
     stores: &[S],
-    room: u32,
+    room: Room,
 ) -> Result<Vec<u8>, AllocError>
     requires stores { RunsOnAll image.now cores (map S.text stores.now) }
-    requires least { 16 ≤ room }
-    requires most { room ≤ 1048576 }
     ensures { IfOk result (λ text. spec.AreLines image.now cores room (map S.text stores.now) text.items) }
 {
     let Ok(found) = dependences_in_order(alloc, image) else {
@@ -66,12 +63,10 @@ fn push_stores<S: AsStr>(
     image: &Image,
     cores: u32,
     words: &[S],
-    room: u32,
+    room: Room,
     known: Known<'_>,
 ) -> Result<(), AllocError>
     requires stores { RunsOnAll image.now cores (map S.text words.now) }
-    requires least { 16 ≤ room }
-    requires most { room ≤ 1048576 }
     ensures { OnOk result (spec.AddStores image.now cores room (map S.text words.now) text.old.items text.new.items) }
 {
     for word in words {
@@ -87,12 +82,10 @@ fn push_store(
     image: &Image,
     cores: u32,
     word: &str,
-    room: u32,
+    room: Room,
     known: Known<'_>,
 ) -> Result<(), AllocError>
     requires store { RunsOn image.now cores (store_named word.now) }
-    requires least { 16 ≤ room }
-    requires most { room ≤ 1048576 }
     ensures { OnOk result (spec.AddStore image.now cores room word.now (store_named word.now) text.old.items text.new.items) }
 {
     let (store, image) = store_on(alloc, image, cores, word)?;
@@ -106,12 +99,10 @@ fn line_of(
     image: &Image,
     store: Store,
     cores: u32,
-    room: u32,
+    room: Room,
     known: Known<'_>,
 ) -> Result<Line, AllocError>
     requires cores { IsCoreCount image.now cores }
-    requires least { 16 ≤ room }
-    requires most { room ≤ 1048576 }
     ensures { IfOk result (spec.IsLineOf image.now store cores room) }
 {
     match store {

@@ -2,6 +2,7 @@
 //! that a dependence of the run in order joins, and for each store whether a schedule of up to so many cores can violate an epoch.
 #![tactic(auto)]
 
+use all_schedules::Room;
 use std::alloc::Global;
 use std::process::ExitCode;
 use trace_commands::{ROOM, spelled_words_given};
@@ -22,7 +23,7 @@ fn main(rt: HostRuntime) -> ExitCode {
         Ok(words) => work(
             rt.alloc(),
             words.as_slice(),
-            ROOM,
+            Room::new(ROOM),
             &mut rt.stdin(),
             &mut rt.stdout(),
             &mut rt.stderr(),

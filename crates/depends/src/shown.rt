@@ -1,11 +1,11 @@
 //! A violation that a schedule makes.
-ghost use Rattle.std.specs.Prelude.{◌≡◌, ◌≤◌, ◌<◌, All, IfOk, IfSome};
+ghost use Rattle.std.specs.Prelude.{◌≡◌, ◌<◌, All, IfOk, IfSome};
 ghost use Rattle.violations.specs.Rule.{IsCoreCount};
 ghost use Rattle.all_schedules.specs.Made.{loop_on};
 ghost use Rattle.conflicts.specs.Explained.{IsExplained};
 ghost use Rattle.depends.specs.Shown as spec;
 
-use all_schedules::drive_schedule;
+use all_schedules::{Room, drive_schedule};
 use conflicts::{Blame, Explanation, Site, explain, sites};
 use homefree::{Book, TurnFault};
 use rv32_exec::Image;
@@ -34,19 +34,17 @@ pub struct Shown {
 }
 
 /// The first violation that a schedule makes over a fresh store. None: it makes none, or its history is full before. The cores are at
-/// least 1, and the room is 16 to 1,048,576 entries.
+/// least 1.
 ///
 /// `AllocError`: memory ran out.
 pub fn show<S: EpochStore>(
     alloc: Global,
     image: &Image,
     cores: u32,
-    room: u32,
+    room: Room,
     schedule: &[u32],
 ) -> Result<Option<Shown>, AllocError>
     requires cores { IsCoreCount image.now cores }
-    requires least { 16 ≤ room }
-    requires most { room ≤ 1048576 }
     requires schedule { All (λ core. core < cores) schedule.now }
     ensures { IfOk result (λ shown. IfSome shown (spec.IsShown S.starts S.makes S.view S.waits (loop_on image.now cores room) schedule.now)) }
 {

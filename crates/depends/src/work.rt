@@ -8,6 +8,7 @@ ghost use Rattle.trace_commands.specs.Stores.{names_store, or_both};
 ghost use Rattle.depends.specs.Work as spec;
 
 use crate::answer::do_depends;
+use all_schedules::Room;
 use std::alloc::Global;
 use std::convert::AsStr;
 use std::io::{Read, Write};
@@ -16,17 +17,15 @@ use trace_commands::{Outcome, first_word, stores_asked};
 /// The whole program: what the loop can roll back through on up to as many cores as the words ask for, 1 to 16, over each of the stores
 /// that they name, `depends CORES STORE ..`; over caches and the plain store, where they name none. The first word is the program's name.
 ///
-/// Any other words are refused as `usage`, with status 2, and nothing is read or written. The room is 16 to 1,048,576 entries.
+/// Any other words are refused as `usage`, with status 2, and nothing is read or written.
 pub fn work<S: AsStr, R: Read, W: Write, E: Write>(
     alloc: Global,
     words: &[S],
-    room: u32,
+    room: Room,
     reader: &mut R,
     writer: &mut W,
     errors: &mut E,
 ) -> u8
-    requires least { 16 ≤ room }
-    requires most { room ≤ 1048576 }
     ensures { ForText (R.remaining reader.old) (λ text. spec.WorkAnswers (map S.text words.now) room text
         (record { old = R.remaining reader.old; new = R.remaining reader.new })
         (record { old = W.contents writer.old; new = W.contents writer.new })
@@ -44,14 +43,12 @@ fn do_asked<S: AsStr, R: Read, W: Write, E: Write>(
     alloc: Global,
     cores: u32,
     stores: &[S],
-    room: u32,
+    room: Room,
     reader: &mut R,
     writer: &mut W,
     errors: &mut E,
 ) -> u8
     requires cores { 1 ≤ cores }
-    requires least { 16 ≤ room }
-    requires most { room ≤ 1048576 }
     requires stores { list_all names_store (map S.text stores.now) ≡ true }
     ensures outcome { ForText (R.remaining reader.old) (λ text. DependsAnswers cores (or_both (map S.text stores.now)) room text
         (record { old = W.contents writer.old; new = W.contents writer.new }) (record { old = E.contents errors.old; new = E.contents errors.new }) result) }

@@ -1,7 +1,6 @@
 //! The lines `even`: up to which cost a loop gains.
 ghost use Rattle.std.specs.Prelude.{◌≡◌, ◌≤◌, ◌++◌, All, IfOk, OnOk};
 ghost use Rattle.violations.specs.Rule.{IsCoreCount};
-ghost use Rattle.homefree.specs.Room.{most_room};
 ghost use Rattle.all_schedules.specs.Made.{loop_on};
 ghost use Rattle.gain.specs.Evens as spec;
 
@@ -9,7 +8,7 @@ use crate::gains::Study;
 use crate::lines::more_counts;
 use crate::measure::{Measured, measure};
 use crate::text::push_number;
-use all_schedules::holds_at;
+use all_schedules::{Room, holds_at};
 use even_speed::Terms;
 use rv32_exec::Image;
 use std::alloc::{AllocError, Global};
@@ -31,8 +30,6 @@ pub fn push_evens<S: PricedStore>(
     addresses: &[u32],
 ) -> Result<(), AllocError>
     requires cores { IsCoreCount image.now study.now.cores }
-    requires least { 16 ≤ study.now.room }
-    requires most { study.now.room ≤ most_room }
     ensures { OnOk result (spec.AddEvens S.starts S.makes S.view S.waits S.prices S.keeps addresses.now study.now image.now store.now text.old.items text.new.items) }
 {
     push_even::<S>(alloc, text, store, image, study, addresses, 1)?;
@@ -51,8 +48,6 @@ fn push_each<S: PricedStore>(
     counts: &[u32],
 ) -> Result<(), AllocError>
     requires counts { All (λ k. IsCoreCount image.now k) counts.now }
-    requires least { 16 ≤ study.now.room }
-    requires most { study.now.room ≤ most_room }
     ensures { OnOk result (spec.AddEvenEach S.starts S.makes S.view S.waits S.prices S.keeps addresses.now study.now image.now store.now counts.now text.old.items text.new.items) }
 {
     for cores in counts {
@@ -72,8 +67,6 @@ fn push_even<S: PricedStore>(
     cores: u32,
 ) -> Result<(), AllocError>
     requires cores { IsCoreCount image.now cores }
-    requires least { 16 ≤ study.now.room }
-    requires most { study.now.room ≤ most_room }
     ensures { OnOk result (spec.AddEven S.starts S.makes S.view S.waits S.prices S.keeps addresses.now study.now image.now store.now cores text.old.items text.new.items) }
 {
     let at = even_at::<S>(alloc, image, study, addresses, cores)?;
@@ -114,8 +107,6 @@ fn even_at<S: PricedStore>(
     cores: u32,
 ) -> Result<Option<u32>, AllocError>
     requires cores { IsCoreCount image.now cores }
-    requires least { 16 ≤ study.now.room }
-    requires most { study.now.room ≤ most_room }
     ensures { IfOk result (spec.IsEvenAt S.starts S.makes S.view S.waits S.prices S.keeps addresses.now study.now (loop_on image.now cores study.now.room)) }
 {
     for tried in 0..MOST_TRIED + 1 {
@@ -137,8 +128,6 @@ fn gains_at<S: PricedStore>(
     each: u32,
 ) -> Result<bool, AllocError>
     requires cores { IsCoreCount image.now cores }
-    requires least { 16 ≤ study.now.room }
-    requires most { study.now.room ≤ most_room }
     requires each { each ≤ 60 }
     ensures { IfOk result (spec.Compares S.starts S.makes S.view S.waits S.prices S.keeps addresses.now (loop_on image.now cores study.now.room) (spec.costs_at study.now each)) }
 {

@@ -4,14 +4,13 @@ ghost use Rattle.std.specs.List.{list_all};
 ghost use Rattle.rv32_image.specs.Input.{TakesAtMost};
 ghost use Rattle.rv32_image.specs.ImageText.{longest_image_text};
 ghost use Rattle.rv32_image.specs.Reading.{ForText};
-ghost use Rattle.homefree.specs.Room.{most_room};
 ghost use Rattle.trace_commands.specs.Stores.{names_store};
 ghost use Rattle.all_schedules.specs.Stores.{RunsOnAll};
 ghost use Rattle.gain.specs.Gains as spec;
 
 use crate::limit_lines::push_limits;
 use crate::stores::push_stores;
-use all_schedules::check_stores;
+use all_schedules::{Room, check_stores};
 use rv32_image::{Image, read_image};
 use std::alloc::{AllocError, Global};
 use std::convert::AsStr;
@@ -25,7 +24,7 @@ pub struct Study {
     /// The most cores that it runs on.
     pub cores: u32,
     /// How many entries the history of a run may have.
-    pub room: u32,
+    pub room: Room,
     /// Whether runs in which loads wait for what earlier epochs store are asked too.
     pub held: bool,
     /// Whether what its dependences allow is asked too.
@@ -39,7 +38,7 @@ pub struct Study {
 /// Runs the image that the reader gives at even speed on 1, 2, 4, 8 cores, as far as these are fewer than the cores, and on the cores, over
 /// each of these stores, where loads at these addresses of code wait and turns cost what is asked. It writes a line for each run, and one for
 /// that in which loads wait for what earlier epochs store, where those are asked for; below them a line of the limits for each number of cores,
-/// where they are asked for. The cores are at least 1, and the room is 16 to `homefree::MOST_ROOM` entries.
+/// where they are asked for. The cores are at least 1.
 ///
 /// The status is 0 where that was written; 2 where the image, a machine or the number of cores is refused; 3 where memory ran out or a
 /// write failed. With 2 and 3 one line on the error stream says which. All that is written was made before the first byte: after a
@@ -54,8 +53,6 @@ pub fn do_gain<S: AsStr, R: Read, W: Write, E: Write>(
     errors: &mut E,
 ) -> u8
     requires cores { 1 ≤ study.now.cores }
-    requires least { 16 ≤ study.now.room }
-    requires most { study.now.room ≤ most_room }
     requires stores { list_all names_store (map S.text stores.now) ≡ true }
     ensures outcome { ForText (R.remaining reader.old) (λ text. spec.GainAnswers study.now addresses.now (map S.text stores.now) text
         (record { old = W.contents writer.old; new = W.contents writer.new }) (record { old = E.contents errors.old; new = E.contents errors.new }) result) }
@@ -77,8 +74,6 @@ fn gains_of_input<S: AsStr, R: Read, W: Write>(
     writer: &mut W,
 ) -> Result<(), Outcome>
     requires cores { 1 ≤ study.now.cores }
-    requires least { 16 ≤ study.now.room }
-    requires most { study.now.room ≤ most_room }
     requires stores { list_all names_store (map S.text stores.now) ≡ true }
     ensures outcome { ForText (R.remaining reader.old) (λ text. MatchResult result
         (λ _. spec.IsWritten study.now addresses.now (map S.text stores.now) text (W.contents writer.old) (W.contents writer.new))
@@ -100,8 +95,6 @@ fn gains_of_image<S: AsStr, W: Write>(
     writer: &mut W,
 ) -> Result<(), Outcome>
     requires cores { 1 ≤ study.now.cores }
-    requires least { 16 ≤ study.now.room }
-    requires most { study.now.room ≤ most_room }
     requires stores { list_all names_store (map S.text stores.now) ≡ true }
     ensures { MatchResult result (λ _. spec.IsWrittenOf image.now study.now addresses.now (map S.text stores.now) (W.contents writer.old) (W.contents writer.new))
         (spec.IsUnwrittenOf image.now study.now addresses.now (map S.text stores.now) (W.contents writer.old) (W.contents writer.new)) }
@@ -126,8 +119,6 @@ fn text_of<S: AsStr>(
     stores: &[S],
 ) -> Result<Vec<u8>, AllocError>
     requires cores { 1 ≤ study.now.cores }
-    requires least { 16 ≤ study.now.room }
-    requires most { study.now.room ≤ most_room }
     requires stores { RunsOnAll image.now study.now.cores (map S.text stores.now) }
     ensures { IfOk result (λ text. spec.IsText image.now study.now addresses.now (map S.text stores.now) text.items) }
 {

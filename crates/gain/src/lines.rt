@@ -1,12 +1,12 @@
 //! The lines of one store.
-ghost use Rattle.std.specs.Prelude.{◌≡◌, ◌≤◌, ◌++◌, All, IfOk, IfSome, OnOk};
+ghost use Rattle.std.specs.Prelude.{◌≡◌, ◌++◌, All, IfOk, IfSome, OnOk};
 ghost use Rattle.violations.specs.Rule.{IsCoreCount};
-ghost use Rattle.homefree.specs.Room.{most_room};
 ghost use Rattle.gain.specs.Measured.{HasFewSteps};
 ghost use Rattle.gain.specs.Lines as spec;
 
 use crate::measure::{Base, measure, order_of};
 use crate::text::push_line;
+use all_schedules::Room;
 use even_speed::Terms;
 use rv32_exec::Image;
 use std::alloc::{AllocError, Global};
@@ -30,13 +30,13 @@ struct Runs<'s> {
     store: &'s [u8],
     image: &'s Image,
     /// How many entries a history has room for.
-    room: u32,
+    room: Room,
     /// What they are compared with.
     base: Base,
 }
 
 /// Adds a line for each of 1, 2, 4 and 8 cores that are fewer than these, and one for these, on these terms; and a line `held` below
-/// each, where there are such. The cores are at least 1, and the room is 16 to `homefree::MOST_ROOM` entries.
+/// each, where there are such. The cores are at least 1.
 ///
 /// `AllocError`: memory ran out.
 pub fn push_lines<S: PricedStore>(
@@ -45,12 +45,10 @@ pub fn push_lines<S: PricedStore>(
     store: &[u8],
     image: &Image,
     cores: u32,
-    room: u32,
+    room: Room,
     waiting: &Waiting,
 ) -> Result<(), AllocError>
     requires cores { IsCoreCount image.now cores }
-    requires least { 16 ≤ room }
-    requires most { room ≤ most_room }
     ensures { OnOk result (spec.AddLines S.starts S.makes S.view S.waits S.prices S.keeps waiting.now image.now room store.now cores text.old.items text.new.items) }
 {
     let first = measure::<S>(alloc, image, 1, room, &waiting.terms)?;
@@ -77,8 +75,6 @@ fn push_each<S: PricedStore>(
     counts: &[u32],
 ) -> Result<(), AllocError>
     requires counts { All (λ k. IsCoreCount runs.now.image.now k) counts.now }
-    requires least { 16 ≤ runs.now.room }
-    requires most { runs.now.room ≤ most_room }
     requires first { IfSome runs.now.base.first HasFewSteps }
     ensures { OnOk result (spec.AddEach S.starts S.makes S.view S.waits S.prices S.keeps waiting.now runs.now.image.now runs.now.room runs.now.store.now runs.now.base counts.now text.old.items text.new.items) }
 {
@@ -105,8 +101,6 @@ fn push_held<S: PricedStore>(
     cores: u32,
 ) -> Result<(), AllocError>
     requires cores { IsCoreCount runs.now.image.now cores }
-    requires least { 16 ≤ runs.now.room }
-    requires most { runs.now.room ≤ most_room }
     requires first { IfSome runs.now.base.first HasFewSteps }
     ensures { OnOk result (spec.AddHeld S.starts S.makes S.view S.waits S.prices S.keeps waiting.now.held runs.now.image.now runs.now.room runs.now.store.now runs.now.base cores text.old.items text.new.items) }
 {

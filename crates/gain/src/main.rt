@@ -4,6 +4,7 @@
 //! `--hold` behind all of them, of runs in which turns cost something.
 #![tactic(auto)]
 
+use all_schedules::Room;
 use homefree::MOST_ROOM;
 use std::alloc::Global;
 use std::process::ExitCode;
@@ -29,7 +30,7 @@ fn main(rt: HostRuntime) -> ExitCode {
         Ok(words) => work(
             rt.alloc(),
             words.as_slice(),
-            ROOM,
+            Room::new(ROOM),
             &mut rt.stdin(),
             &mut rt.stdout(),
             &mut rt.stderr(),

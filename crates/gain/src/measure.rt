@@ -1,14 +1,13 @@
 //! What is measured of one run.
-ghost use Rattle.std.specs.Prelude.{◌≤◌, IfOk, IfSome};
+ghost use Rattle.std.specs.Prelude.{IfOk, IfSome};
 ghost use Rattle.violations.specs.Rule.{IsCoreCount};
-ghost use Rattle.homefree.specs.Room.{most_room};
 ghost use Rattle.even_speed.specs.Even.{pacing_of};
 ghost use Rattle.turn_costs.specs.Order.{kind_of};
 ghost use Rattle.all_schedules.specs.Made.{loop_on};
 ghost use Rattle.gain.specs.Measured as spec;
 
 use crate::kinds::{Kinds, kinds_of};
-use all_schedules::{EvenRun, run_evenly};
+use all_schedules::{EvenRun, Room, run_evenly};
 use even_speed::{Ran, Terms};
 use homefree::TurnFault;
 use rv32_exec::Image;
@@ -36,19 +35,17 @@ pub struct Base {
 }
 
 /// Runs the loop at even speed, on these terms, over a fresh store, and answers what is told of the run. None: its history was full before the loop
-/// was over. The cores are at least 1, and the room is 16 to `homefree::MOST_ROOM` entries.
+/// was over. The cores are at least 1.
 ///
 /// `AllocError`: memory ran out.
 pub fn measure<S: PricedStore>(
     alloc: Global,
     image: &Image,
     cores: u32,
-    room: u32,
+    room: Room,
     terms: &Terms,
 ) -> Result<Option<Measured>, AllocError>
     requires cores { IsCoreCount image.now cores }
-    requires least { 16 ≤ room }
-    requires most { room ≤ most_room }
     ensures is { IfOk result (spec.IsMeasured S.starts S.makes S.view S.waits S.keeps (pacing_of S.prices terms.now) (loop_on image.now cores room)) }
     ensures few { IfOk result (λ told. IfSome told spec.HasFewSteps) }
 {

@@ -1,7 +1,6 @@
 //! The lines of all stores.
-ghost use Rattle.std.specs.Prelude.{◌≤◌, IfOk, OnOk, map};
+ghost use Rattle.std.specs.Prelude.{IfOk, OnOk, map};
 ghost use Rattle.violations.specs.Rule.{IsCoreCount};
-ghost use Rattle.homefree.specs.Room.{most_room};
 ghost use Rattle.trace_commands.specs.Stores.{store_named};
 ghost use Rattle.all_schedules.specs.Holding.{pieces_of};
 ghost use Rattle.all_schedules.specs.Stores.{RunsOn, RunsOnAll};
@@ -11,7 +10,7 @@ use crate::even_lines::push_evens;
 use crate::gains::Study;
 use crate::lines::{Waiting, push_lines};
 use crate::text::shows_held;
-use all_schedules::{holds_at, holds_in_order, pieces_of, store_on};
+use all_schedules::{Room, holds_at, holds_in_order, pieces_of, store_on};
 use even_speed::Terms;
 use rv32_image::Image;
 use spec_bus::CachedBus;
@@ -32,8 +31,6 @@ pub fn push_stores<S: AsStr>(
     words: &[S],
 ) -> Result<(), AllocError>
     requires stores { RunsOnAll image.now study.now.cores (map S.text words.now) }
-    requires least { 16 ≤ study.now.room }
-    requires most { study.now.room ≤ most_room }
     ensures { OnOk result (spec.AddStores study.now addresses.now image.now (map S.text words.now) text.old.items text.new.items) }
 {
     for word in words {
@@ -52,8 +49,6 @@ fn push_store(
     word: &str,
 ) -> Result<(), AllocError>
     requires store { RunsOn image.now study.now.cores (store_named word.now) }
-    requires least { 16 ≤ study.now.room }
-    requires most { study.now.room ≤ most_room }
     ensures { OnOk result (spec.AddStore study.now addresses.now image.now word.now (store_named word.now) text.old.items text.new.items) }
 {
     let (store, image) = store_on(alloc, image, study.cores, word)?;
@@ -79,8 +74,6 @@ fn push_lines_of(
     store: Store,
 ) -> Result<(), AllocError>
     requires cores { IsCoreCount image.now study.now.cores }
-    requires least { 16 ≤ study.now.room }
-    requires most { study.now.room ≤ most_room }
     ensures { OnOk result (spec.AddLinesOf study.now addresses.now image.now store word.now text.old.items text.new.items) }
 {
     let waiting = waiting_over(alloc, image, study, addresses, store)?;
@@ -99,8 +92,6 @@ fn push_runs(
     waiting: &Waiting,
 ) -> Result<(), AllocError>
     requires cores { IsCoreCount image.now study.now.cores }
-    requires least { 16 ≤ study.now.room }
-    requires most { study.now.room ≤ most_room }
     ensures { OnOk result (spec.AddWaiting waiting.now image.now store study.now.cores study.now.room word.now text.old.items text.new.items) }
 {
     let cores = study.cores;
@@ -122,8 +113,6 @@ fn push_evens_of(
     store: Store,
 ) -> Result<(), AllocError>
     requires cores { IsCoreCount image.now study.now.cores }
-    requires least { 16 ≤ study.now.room }
-    requires most { study.now.room ≤ most_room }
     ensures { OnOk result (spec.AddEvensOf study.now.even study.now addresses.now image.now store word.now text.old.items text.new.items) }
 {
     if !study.even {

@@ -3,7 +3,6 @@ ghost use Rattle.std.specs.List.{list_all};
 ghost use Rattle.rv32_image.specs.Input.{TakesAtMost};
 ghost use Rattle.rv32_image.specs.ImageText.{longest_image_text};
 ghost use Rattle.rv32_image.specs.Reading.{ForText};
-ghost use Rattle.homefree.specs.Room.{most_room};
 ghost use Rattle.trace_commands.specs.Stores.{names_store, or_both};
 ghost use Rattle.all_schedules.specs.Addresses.{addresses_of};
 ghost use Rattle.gain.specs.Asked.{asked_before_limits, asks_even, asks_held, asks_limits, gain_asked_in, without_even, without_held, without_limits};
@@ -11,7 +10,7 @@ ghost use Rattle.gain.specs.Gains.{GainAnswers};
 ghost use Rattle.gain.specs.Work as spec;
 
 use crate::gains::{Study, do_gain};
-use all_schedules::{addresses_of, costs_behind, wait_place, wait_words};
+use all_schedules::{Room, addresses_of, costs_behind, wait_place, wait_words};
 use std::alloc::{AllocError, Global};
 use std::convert::AsStr;
 use std::io::{Read, Write};
@@ -23,18 +22,15 @@ use trace_commands::{CommandStop, Outcome, first_word, stores_asked};
 /// them may stand what turns cost, as `all_schedules::costs_behind` reads it, and last `--even-at`, which asks up to which costs it gains. The
 /// first word is the program's name.
 ///
-/// Any other words are refused as `usage`, with status 2, and nothing is read or written. The room is 16 to `homefree::MOST_ROOM`
-/// entries.
+/// Any other words are refused as `usage`, with status 2, and nothing is read or written.
 pub fn work<S: AsStr, R: Read, W: Write, E: Write>(
     alloc: Global,
     words: &[S],
-    room: u32,
+    room: Room,
     reader: &mut R,
     writer: &mut W,
     errors: &mut E,
 ) -> u8
-    requires least { 16 ≤ room }
-    requires most { room ≤ most_room }
     ensures { ForText (R.remaining reader.old) (λ text. spec.WorkAnswers (map S.text words.now) room text
         (record { old = R.remaining reader.old; new = R.remaining reader.new })
         (record { old = W.contents writer.old; new = W.contents writer.new })
@@ -50,7 +46,7 @@ pub fn work<S: AsStr, R: Read, W: Write, E: Write>(
 
 /// What the words ask for, and the words of addresses and of stores among them. None: they ask for nothing.
 #[tactic(auto, unfolding(crate::specs::Asked::gain_asked_in))]
-fn study_asked<S: AsStr>(words: &[S], room: u32) -> Option<(Study, &[S], &[S])>
+fn study_asked<S: AsStr>(words: &[S], room: Room) -> Option<(Study, &[S], &[S])>
     ensures asked { IfSome result (λ found. gain_asked_in (map S.text words.now)
         ≡ Some (record { cores = found.0.cores; stores = or_both (map S.text found.2.now); held = found.0.held; addresses = addresses_of (map S.text found.1.now); limits = found.0.limits; costs = found.0.costs; even = found.0.even })) }
     ensures cores { IfSome result (λ found. 1 ≤ found.0.cores) }
@@ -149,8 +145,6 @@ fn gain_over<S: AsStr, R: Read, W: Write, E: Write>(
     errors: &mut E,
 ) -> u8
     requires cores { 1 ≤ study.now.cores }
-    requires least { 16 ≤ study.now.room }
-    requires most { study.now.room ≤ most_room }
     requires stores { list_all names_store (map S.text stores.now) ≡ true }
     ensures outcome { ForText (R.remaining reader.old) (λ text. GainAnswers study.now (addresses_of (map S.text waits.now)) (or_both (map S.text stores.now)) text
         (record { old = W.contents writer.old; new = W.contents writer.new }) (record { old = E.contents errors.old; new = E.contents errors.new }) result) }
@@ -182,8 +176,6 @@ fn gain_waiting<S: AsStr, R: Read, W: Write, E: Write>(
     errors: &mut E,
 ) -> u8
     requires cores { 1 ≤ study.now.cores }
-    requires least { 16 ≤ study.now.room }
-    requires most { study.now.room ≤ most_room }
     requires stores { list_all names_store (map S.text stores.now) ≡ true }
     ensures outcome { ForText (R.remaining reader.old) (λ text. GainAnswers study.now addresses.now (or_both (map S.text stores.now)) text
         (record { old = W.contents writer.old; new = W.contents writer.new }) (record { old = E.contents errors.old; new = E.contents errors.new }) result) }

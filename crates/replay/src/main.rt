@@ -2,7 +2,7 @@
 //! trace, and prints what exactly that schedule makes, over the store `caches` or `plain`; and runs on threads over that store.
 #![tactic(auto)]
 
-use all_schedules::work;
+use all_schedules::{Room, work};
 use core_threads::Open;
 use std::alloc::Global;
 use std::process::ExitCode;
@@ -14,7 +14,7 @@ fn main(rt: HostRuntime) -> ExitCode {
             &rt,
             rt.alloc(),
             words.as_slice(),
-            ROOM,
+            Room::new(ROOM),
             &Open,
             &mut rt.stdin(),
             &mut rt.stdout(),

@@ -2,7 +2,7 @@
 //! ask for.
 
 use crate::words::{cell, is_row, number};
-use all_schedules::work;
+use all_schedules::{Room, work};
 use core_threads::Open;
 use std::alloc::Global;
 use std::process::Abort;
@@ -128,7 +128,7 @@ fn ends<T: Abort + Threads + Wait + Sync>(rt: &T, alloc: Global, run: &Run) -> R
         rt,
         alloc,
         words.as_slice(),
-        room,
+        Room::new(room),
         &Open,
         &mut reader,
         &mut written,

@@ -1,4 +1,4 @@
-use Rattle.std.proofs.Common.{◌+◌, map, sym, subst}
+use Rattle.std.proofs.Common.{ℕ, ◌+◌, map, sym, subst}
 use Rattle.rv32_image.specs.ImageText.{longest_image_text}
 use Rattle.rv32_image.specs.Input.{TakesAtMost}
 use Rattle.rv32_image.specs.Reading.{ForText}
@@ -71,4 +71,6 @@ returns-in-Threaded g c =
     let errors : Stream = record { old = g.E.Write.contents c.args.errors.now; new = g.E.Write.contents c.do_threads.new.errors } in
     subst (λ (turns : Turns). ForText input.old (λ text. TurnsAnswer starts makes view waits g.S.PricedStore.prices g.S.PricedStore.keeps g.S.ShownStore.changes (addresses_of (map g.A.AsStr.text c.args.waits.now)) c.args.settings turns text input output errors c.do_threads.result)) (sym c.in-Threaded.is)
     (for_both input.old (λ text. Conclusion (IsThreadsOutcome (IsOfCaches view) c.args.settings.asked options text output.old output.new) errors.old errors.new c.do_threads.result)
-    (TakesAtMost input.old input.new (longest_image_text + 1)) c.do_threads.ensures.outcome c.do_threads.ensures.taken)
+    (TakesAtMost input.old input.new (longest_image_text + 1))
+    (subst (λ (n : ℕ). ForText input.old (λ text. Conclusion (IsThreadsOutcome (IsOfCaches view) c.args.settings.asked (record options { room = n }) text output.old output.new) errors.old errors.new c.do_threads.result))
+    c.entries.ensures.value c.do_threads.ensures.outcome) c.do_threads.ensures.taken)

@@ -13,14 +13,15 @@ use Rattle.all_schedules.proofs.told.step_schedule.Goals as goal
 pub returns-clause-made : goal.returns-clause-made
 returns-clause-made g c =
     let new = c.in-Ok.ensures in
+    let room = new.room ∙ c.entries.ensures.value in
     let run = c.in-Ok-stepped.ensures in
     let same = run.same in
     let loop : loop_of c.drive_steps-stepped.new.book ≡ loop_on c.args.image.now c.args.cores c.args.room =
-    (λ k. record { image = (same.image ∙ new.image) k; cores = (same.cores ∙ new.cores) k; room = (same.room ∙ new.room) k }) in record {
+    (λ k. record { image = (same.image ∙ new.image) k; cores = (same.cores ∙ new.cores) k; room = (same.room ∙ room) k }) in record {
       loop = loop;
       result = run.stepped.0;
       makes = made_history g.S.EpochStore.starts g.S.EpochStore.makes g.S.EpochStore.view g.S.EpochStore.waits c.args.image.now c.args.cores c.args.room c.args.schedule.now c.in-Ok.book c.drive_steps-stepped.new.book c.in-Ok.shares
-          c.drive_steps-stepped.new.shares (Ok run.stepped.0) new.image new.cores new.room new.history new.totals new.store new.starts new.stopped new.shares loop c.look.ensures
+          c.drive_steps-stepped.new.shares (Ok run.stepped.0) new.image new.cores room new.history new.totals new.store new.starts new.stopped new.shares loop c.look.ensures
           (driven_by g.S.EpochStore.makes g.S.EpochStore.view g.S.EpochStore.waits g.S.ShownStore.changes (driver c.in-Ok.book c.in-Ok.shares) c.args.schedule.now run.stepped.0
           (driver c.drive_steps-stepped.new.book c.drive_steps-stepped.new.shares) run.stepped.1 run.stepped.2);
     }
@@ -28,6 +29,7 @@ returns-clause-made g c =
 pub returns-clause-head : goal.returns-clause-head
 returns-clause-head g c =
     let new = c.in-Ok.ensures in
+    let room = new.room ∙ c.entries.ensures.value in
     let run = c.in-Ok-stepped.ensures in
     let text = run.stepped.1 in (
       text ++ codes "end\n",
@@ -38,7 +40,7 @@ returns-clause-head g c =
           last = driver c.drive_steps-stepped.new.book c.drive_steps-stepped.new.shares;
           end = run.stepped.0;
           is_new = record {
-            loop = (λ k. record { image = new.image k; cores = new.cores k; room = new.room k });
+            loop = (λ k. record { image = new.image k; cores = new.cores k; room = room k });
             history = new.history;
             totals = new.totals;
             store = new.store;
@@ -58,9 +60,10 @@ returns-clause-head g c =
 pub returns-in-Err-clause-begun : goal.returns-in-Err-clause-begun
 returns-in-Err-clause-begun g c =
     let new = c.in-Ok.ensures in
+    let room = new.room ∙ c.entries.ensures.value in
     inr (has_begun g.S.EpochStore.starts g.S.EpochStore.makes g.S.EpochStore.view g.S.EpochStore.waits g.S.ShownStore.changes (loop_on c.args.image.now c.args.cores c.args.room) c.args.schedule.now c.in-Ok.book c.in-Ok.shares
     (g.W.Write.contents c.args.writer.now) (g.W.Write.contents c.drive_steps-stepped.new.writer) (record {
-      loop = (λ k. record { image = new.image k; cores = new.cores k; room = new.room k });
+      loop = (λ k. record { image = new.image k; cores = new.cores k; room = room k });
       history = new.history;
       totals = new.totals;
       store = new.store;
@@ -71,11 +74,12 @@ returns-in-Err-clause-begun g c =
 pub returns-in_default-extend_from_slice-clause-begun : goal.returns-in_default-extend_from_slice-clause-begun
 returns-in_default-extend_from_slice-clause-begun g c =
     let new = c.in-Ok.ensures in
+    let room = new.room ∙ c.entries.ensures.value in
     let run = c.in-Ok-stepped.ensures in
     inr (has_told g.S.EpochStore.starts g.S.EpochStore.makes g.S.EpochStore.view g.S.EpochStore.waits g.S.ShownStore.changes (loop_on c.args.image.now c.args.cores c.args.room) c.args.schedule.now c.in-Ok.book c.in-Ok.shares
     run.stepped.0 (driver c.drive_steps-stepped.new.book c.drive_steps-stepped.new.shares) run.stepped.1 (g.W.Write.contents c.args.writer.now) (g.W.Write.contents c.drive_steps-stepped.new.writer)
     (record {
-      loop = (λ k. record { image = new.image k; cores = new.cores k; room = new.room k });
+      loop = (λ k. record { image = new.image k; cores = new.cores k; room = room k });
       history = new.history;
       totals = new.totals;
       store = new.store;
@@ -87,11 +91,12 @@ returns-in_default-extend_from_slice-clause-begun g c =
 pub returns-in-Err-clause-fault : goal.returns-in-Err-clause-fault
 returns-in-Err-clause-fault g c =
     let new = c.in-Ok.ensures in
+    let room = new.room ∙ c.entries.ensures.value in
     let run = c.in-Err.ensures in
     let same = run.same in
     let loop : loop_of c.drive_steps-stepped.new.book ≡ loop_on c.args.image.now c.args.cores c.args.room =
-    (λ k. record { image = (same.image ∙ new.image) k; cores = (same.cores ∙ new.cores) k; room = (same.room ∙ new.room) k }) in
+    (λ k. record { image = (same.image ∙ new.image) k; cores = (same.cores ∙ new.cores) k; room = (same.room ∙ room) k }) in
     told_fault g.S.EpochStore.starts g.S.EpochStore.makes g.S.EpochStore.view g.S.EpochStore.waits (loop_on c.args.image.now c.args.cores c.args.room) c.args.schedule.now c.drive_steps-stepped.new.book.history c.in-Err.fault
     (λ full. made_history g.S.EpochStore.starts g.S.EpochStore.makes g.S.EpochStore.view g.S.EpochStore.waits c.args.image.now c.args.cores c.args.room c.args.schedule.now c.in-Ok.book c.drive_steps-stepped.new.book c.in-Ok.shares
-    c.drive_steps-stepped.new.shares (Err HistoryFull) new.image new.cores new.room new.history new.totals new.store new.starts new.stopped new.shares loop c.look.ensures
+    c.drive_steps-stepped.new.shares (Err HistoryFull) new.image new.cores room new.history new.totals new.store new.starts new.stopped new.shares loop c.look.ensures
     (run.full (ap Err full)))
