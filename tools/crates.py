@@ -5,8 +5,19 @@ import subprocess
 from collections.abc import Iterable
 
 
+# The memory for which a check is counted, in kB
+OF_A_CHECK = 3_000_000
+
+
 class CannotCheck(Exception):
     """The checker can't be asked, with the reason."""
+
+
+def checks_at_once() -> int:
+    """How many checks this machine holds at once: one for each processor, as far as there is memory for each."""
+    with open("/proc/meminfo", encoding="ascii") as it:
+        free = next(int(line.split()[1]) for line in it if line.startswith("MemAvailable:"))
+    return max(1, min(len(os.sched_getaffinity(0)), free // OF_A_CHECK))
 
 
 class Kit:
