@@ -19,6 +19,7 @@ pub mod Violations
 -- What is kept of the run in order, and how near epochs depend on each other there.
 pub mod Writers
 pub mod Following
+pub mod Arriving
 -- Epochs past the end: each alone, and whether it conflicts.
 pub mod Outside
 pub mod Ending
@@ -33,3 +34,4 @@ pub mod Buffering
 pub mod Caching
 -- What no conflict says of histories.
 pub mod Nevers
+pub mod Distances

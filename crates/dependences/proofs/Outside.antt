@@ -1,11 +1,12 @@
 -- One epoch alone over a memory: what it has read from outside so far, and who wrote that.
-use Rattle.std.proofs.Common.{◌≡◌, ◌⊎◌, ℕ, suc, ◌+◌, ◌-◌, ◌<◌, ◌≤◌, Bool, true, false, List, [], ◌∷◌, ◌++◌, length, slice_index, Option, Some, None, refl, sym, ap, subst, ◌∙◌, inl, inr, arith, add-one}
+use Rattle.std.proofs.Common.{◌≡◌, ◌⊎◌, ℕ, suc, ◌+◌, ◌-◌, ◌<◌, ◌≤◌, Bool, true, false, List, [], ◌∷◌, ◌++◌, length, slice_index, Option, Some, None, refl, sym, ap, subst, ◌∙◌, inl, inr, arith, add-one, not}
 use Rattle.std.proofs.lemmas.Bool.{cases_lt}
 use Rattle.std.proofs.lemmas.List.{get_or_append_left, get_or_push}
 use Rattle.rv32_image.specs.Image.{LoadedImage}
 use Rattle.memory_bytes.specs.Bytes.{number_at, with_number}
 use Rattle.memory_bytes.specs.Maps.{joined, nothing, over, stored}
 use Rattle.memory_bytes.proofs.Bytes.{number_at_same}
+use Rattle.rv32_exec.specs.declared.stop.Stop.{Stop}
 use Rattle.rv32_exec.specs.declared.stop.Stop.TheVariants as stop
 use Rattle.rv32_exec.specs.declared.sequential.End.TheVariants as end
 use Rattle.rv32_exec.specs.Hart.{HartState, start_of, stepped}
@@ -19,7 +20,7 @@ use Rattle.spec_history.proofs.OneEntry.Accesses.{load_counts}
 use Rattle.spec_history.proofs.OneEntry.Progress.{event_does, outcome_there}
 use Rattle.dependences.specs.Paths.{ReadsOutside}
 use Rattle.dependences.specs.Conflict.{IsInOrder, memory_before}
-use Rattle.dependences.specs.Kept.{IsMarked, MeetsWriter}
+use Rattle.dependences.specs.Kept.{IsMarked, IsNext, MeetsWriter, next_runs}
 use Rattle.dependences.specs.Lengths.{Lasts}
 use Rattle.dependences.proofs.Paths.{IsAt, access_stops, at_start, covered, either, load_after, neither, past_load, past_store, reads_there, start_after, store_after}
 use Rattle.dependences.proofs.Following.{all_loaded, hart_there, load_late, no_both, same_load, to_event, unmarked}
@@ -126,6 +127,17 @@ module _ (image : LoadedImage) (epoch : ℕ) (memory now : List ℕ) (h : HartSt
       let next : IsInOrder image (suc epoch) = subst (λ n. IsInOrder image n) (add-one epoch) order in
       let other : end.Fault epoch cause pc ≡ end.Done (suc epoch) = sym (ap (λ (r : SequentialResult). r.end) whole) ∙ next in cc
 
+  next_end : (b : Bool) → exits image (next_event image h).now ≡ b → (next_event image h).at ≡ stop.Ended → IsNext image (epoch + 1) now (not b)
+  next_end false goes_on is = ends_so is goes_on
+  next_end true exit is = no_exit is exit
+
+  next_by : (s : Stop) → (next_event image h).at ≡ s → HasStopped (after_stop (next_event image h).now x.at.after s)
+      → IsNext image (epoch + 1) now (next_runs image (next_event image h).now s)
+  next_by (stop.Load address width signed rd) is stopped = absurd stopped
+  next_by (stop.Store address width value) is stopped = absurd stopped
+  next_by stop.Ended is stopped = next_end (exits image (next_event image h).now) refl is
+  next_by (stop.Fault cause pc) is stopped = no_fault cause pc is
+
   goes_on_by : (b : Bool) → exits image (next_event image h).now ≡ b → (next_event image h).at ≡ stop.Ended → IsInOrder image (epoch + 1)
       → first_epochs image (epoch + 1) ≡ record { end = end.Done (epoch + 1); bytes = now }
   goes_on_by false goes_on is order = ends_so is goes_on
@@ -133,6 +145,11 @@ module _ (image : LoadedImage) (epoch : ℕ) (memory now : List ℕ) (h : HartSt
 
   pub goes_on : (next_event image h).at ≡ stop.Ended → IsInOrder image (epoch + 1) → first_epochs image (epoch + 1) ≡ record { end = end.Done (epoch + 1); bytes = now }
   goes_on is order = goes_on_by (exits image (next_event image h).now) refl is order
+
+  -- whether the next epoch runs
+  pub next_so : HasStopped (after_stop (next_event image h).now x.at.after (next_event image h).at)
+      → IsNext image (epoch + 1) now (next_runs image (next_event image h).now (next_event image h).at)
+  next_so stopped = next_by (next_event image h).at refl stopped
 
 -- after so many instructions it ends or faults
 pub lasts : (image : LoadedImage) (epoch : ℕ) (memory now : List ℕ) (h : HartState) (x : OnPath image epoch memory now h) → memory ≡ memory_before image epoch

@@ -1,8 +1,11 @@
 -- What the code keeps of the run in order: who wrote each byte last, 0 for nobody and else the epoch's number and 1.
-use Rattle.std.specs.Prelude.{◌≡◌, ℕ, zero, suc, ◌+◌, ◌-◌, ◌==◌, ◌||◌, ◌<◌, ◌≤◌, Bool, false, List, length, Option, Some, None, nat_lt, slice_index, if◌then◌else◌}
+use Rattle.std.specs.Prelude.{◌≡◌, ℕ, zero, suc, ◌+◌, ◌-◌, ◌==◌, ◌||◌, ◌<◌, ◌≤◌, Bool, true, false, not, List, length, Option, Some, None, nat_lt, slice_index, if◌then◌else◌}
 use Rattle.rv32_exec.specs.declared.sequential.End.TheVariants.{Done}
+use Rattle.rv32_exec.specs.declared.stop.Stop.{Stop}
+use Rattle.rv32_exec.specs.declared.stop.Stop.TheVariants.{Load, Store, Ended, Fault}
 use Rattle.rv32_image.specs.Image.{LoadedImage}
-use Rattle.rv32_exec.specs.Sequential.{first_epochs}
+use Rattle.rv32_exec.specs.Hart.{HartState}
+use Rattle.rv32_exec.specs.Sequential.{exits, first_epochs}
 use Rattle.dependences.specs.Paths.{ReadsOutside, Stores}
 use Rattle.dependences.specs.Conflict.{ConflictInOrder, IsInOrder, memory_before}
 use Rattle.dependences.specs.Nearest.{Depends}
@@ -66,6 +69,18 @@ pub record AreKept (image : LoadedImage) (epoch : ℕ) (writers : List ℕ) (nea
 pub record GoesOn (image : LoadedImage) (epoch : ℕ) (memory writers : List ℕ) (nearest : Option ℕ) : Type 0 where
   pub done : first_epochs image epoch ≡ record { end = Done epoch; bytes = memory }
   pub kept : AreKept image epoch writers nearest
+
+-- the next epoch runs where one stops so: it ends, and doesn't exit the loop
+abbrev pub next_runs : LoadedImage → HartState → Stop → Bool
+next_runs image h Ended = not (exits image h)
+next_runs image h (Load address width signed rd) = false
+next_runs image h (Store address width value) = false
+next_runs image h (Fault cause pc) = false
+
+-- where this epoch runs, it starts over this memory
+abbrev pub IsNext : LoadedImage → ℕ → List ℕ → Bool → Type 0
+IsNext image epoch memory true = first_epochs image epoch ≡ record { end = Done epoch; bytes = memory }
+IsNext image epoch memory false = IsInOrder image epoch → ⊥
 
 -- so many epochs run in order, and no other does
 pub record AreAll (image : LoadedImage) (ran : ℕ) : Type 0 where

@@ -3,17 +3,17 @@ ghost use Rattle.rv32_image.specs.Image.{IsImage};
 ghost use Rattle.rv32_exec.specs.declared.sequential.End.TheVariants.{Done};
 ghost use Rattle.rv32_exec.specs.Sequential.{first_epochs};
 ghost use Rattle.dependences.specs.Conflict.{IsInOrder, LineConflict, Overflow, first_beside, run_memory};
-ghost use Rattle.dependences.specs.Kept.{AreAll};
+ghost use Rattle.dependences.specs.Kept.{AreAll, IsNext};
 ghost use Rattle.dependences.specs.KeptLines.{AreLinesKept};
 ghost use Rattle.dependences.specs.KeptTouches as spec;
 ghost use Rattle.dependences.specs.Laws.{NeverOverLines};
 
 use crate::alone::run_between;
+use crate::ends::next_runs;
 use crate::lines::Lines;
-use crate::nearest::run_all;
 use crate::touches::Touches;
 use memory_bytes::{read_number, write_number};
-use rv32_exec::{NoMemory, Stop, advance, loaded, start, stored};
+use rv32_exec::{NoMemory, Stop, advance, start};
 use rv32_image::Image;
 use std::alloc::Global;
 
@@ -26,13 +26,27 @@ pub enum CacheConflict {
     Buffer { later: u32 },
 }
 
+/// What came of an epoch: in what it conflicts with an earlier one, and, where in nothing, whether the next one runs.
+#[derive(Clone, Copy)]
+struct Looked {
+    found: Option<CacheConflict>,
+    goes_on: bool,
+}
+
+/// What came of the run in order: the first conflict, and, where there is none, how many epochs it has.
+#[derive(Clone, Copy)]
+struct RanClear {
+    found: Option<CacheConflict>,
+    epochs: u32,
+}
+
 /// A conflict over caches of two epochs that so many cores can run beside each other, also past the loop's exit or fault; None
 /// where there is none. Then nor do any two paths conflict, and no schedule of so many cores over caches has a violation.
 ///
-/// It runs the loop in order, and once more to look at lines. Where that ends early it runs it a third time, and each epoch past
-/// the end that the cores can reach over a copy of memory.
+/// It runs the loop in order, up to the first conflict. Where that ends early it runs it once more, and each epoch past the end
+/// that the cores can reach over a copy of memory.
 ///
-/// `NoMemory`: there was none for three copies of the image's bytes, two words beside each, and five for each line.
+/// `NoMemory`: there was none for three copies of the image's bytes, a word beside each, and five for each line.
 pub fn conflict_over_caches(
     alloc: Global,
     image: &Image,
@@ -44,70 +58,99 @@ pub fn conflict_over_caches(
     ensures buffers { IfOk result (λ found. found ≡ None → Overflow image.now cores → ⊥) }
     ensures never { IfOk result (λ found. found ≡ None → (fewer : ℕ) → fewer ≤ cores → NeverOverLines image.now fewer) }
 {
-    let size = image.size() as usize;
+    let bytes = image.bytes();
     if cores < 2 {
         return Ok(None);
     }
-    let mut memory = Vec::from_slice(alloc, image.bytes())?;
-    let mut alone = Vec::from_slice(alloc, image.bytes())?;
-    let mut writers = vec![in alloc; 0; size]?;
-    let ran = run_all(image, alone.as_mut_slice(), writers.as_mut_slice()).epochs;
+    let mut memory = Vec::from_slice(alloc, bytes)?;
     let mut lines = Lines::none(alloc, image)?;
     let mut touches = Touches::none(alloc, image)?;
-    let found = conflict_in_order(
+    let ran = conflict_in_order(
         image,
         cores,
-        ran,
         memory.as_mut_slice(),
         &mut lines,
         &mut touches,
     );
-    if found.is_some() {
-        return Ok(found);
+    if ran.found.is_some() {
+        return Ok(ran.found);
+    }
+    conflict_past_end(alloc, image, cores, ran.epochs, &mut lines, &mut touches)
+}
+
+/// Runs the epochs in order, up to the first that conflicts with one before it.
+fn conflict_in_order(
+    image: &Image,
+    cores: u32,
+    memory: &mut [u8],
+    lines: &mut Lines,
+    touches: &mut Touches,
+) -> RanClear
+    requires memory { memory.old ≡ image.now.bytes }
+    requires lines { AreLinesKept image.now cores 0 lines.old }
+    requires touches { spec.AreTouchesKept image.now cores 0 touches.old }
+    ensures found { spec.IsFound image.now cores result.found }
+    ensures all { result.found ≡ None → AreAll image.now result.epochs }
+    ensures none { result.found ≡ None → spec.AreClear image.now cores result.epochs }
+    ensures lines { result.found ≡ None → AreLinesKept image.now cores result.epochs lines.new }
+    ensures touches { result.found ≡ None → spec.AreTouchesKept image.now cores result.epochs touches.new }
+{
+    for epoch in 0..image.epochs() {
+        let looked = conflict_of(image, cores, epoch, memory, lines, touches);
+        if looked.found.is_some() {
+            return RanClear {
+                found: looked.found,
+                epochs: epoch + 1,
+            };
+        }
+        if !looked.goes_on {
+            return RanClear {
+                found: None,
+                epochs: epoch + 1,
+            };
+        }
+    }
+    RanClear {
+        found: None,
+        epochs: image.epochs(),
+    }
+}
+
+/// In what an epoch past those that run in order, of which there are so many, conflicts with an earlier one.
+fn conflict_past_end(
+    alloc: Global,
+    image: &Image,
+    cores: u32,
+    ran: u32,
+    lines: &mut Lines,
+    touches: &mut Touches,
+) -> Result<Option<CacheConflict>, NoMemory>
+    requires all { AreAll image.now ran }
+    requires lines { AreLinesKept image.now cores ran lines.old }
+    requires touches { spec.AreTouchesKept image.now cores ran touches.old }
+    requires clear { spec.AreClear image.now cores ran }
+    ensures found { IfOk result (λ found. spec.IsFound image.now cores found) }
+    ensures none { IfOk result (λ found. found ≡ None → spec.IsNever image.now cores) }
+{
+    if ran == image.epochs() {
+        return Ok(None);
     }
     let mut memory = Vec::from_slice(alloc, image.bytes())?;
+    let mut alone = Vec::from_slice(alloc, image.bytes())?;
     let memory = memory.as_mut_slice();
-    Ok(conflict_past_end(
+    Ok(search(
         image,
         cores,
         ran,
         memory,
         alone.as_mut_slice(),
-        &mut lines,
-        &mut touches,
+        lines,
+        touches,
     ))
 }
 
-/// Runs the epochs that run in order, of which there are so many, up to the first that conflicts with one before it.
-fn conflict_in_order(
-    image: &Image,
-    cores: u32,
-    ran: u32,
-    memory: &mut [u8],
-    lines: &mut Lines,
-    touches: &mut Touches,
-) -> Option<CacheConflict>
-    requires all { AreAll image.now ran }
-    requires limits { IsImage image.now }
-    requires memory { memory.old ≡ image.now.bytes }
-    requires lines { AreLinesKept image.now cores 0 lines.old }
-    requires touches { spec.AreTouchesKept image.now cores 0 touches.old }
-    ensures found { spec.IsFound image.now cores result }
-    ensures none { result ≡ None → spec.AreClear image.now cores ran }
-    ensures lines { result ≡ None → AreLinesKept image.now cores ran lines.new }
-    ensures touches { result ≡ None → spec.AreTouchesKept image.now cores ran touches.new }
-{
-    for epoch in 0..ran {
-        let found = conflict_of(image, cores, epoch, memory, lines, touches);
-        if found.is_some() {
-            return found;
-        }
-    }
-    None
-}
-
 /// Runs each epoch past the end over a copy of memory as the epochs before the first one beside it leave it.
-fn conflict_past_end(
+fn search(
     image: &Image,
     cores: u32,
     ran: u32,
@@ -134,7 +177,7 @@ fn conflict_past_end(
         run_between(image, done, first, memory);
         done = first;
         alone.copy_from_slice(memory);
-        let found = conflict_of(image, cores, later, alone, lines, touches);
+        let found = conflict_of(image, cores, later, alone, lines, touches).found;
         if found.is_some() {
             return found;
         }
@@ -143,7 +186,7 @@ fn conflict_past_end(
 }
 
 /// Runs one epoch over memory, and notes the lines that it touches, up to a byte that it reads from outside in a line in which an
-/// epoch beside it has stored. Answers in what it conflicts with an earlier one.
+/// epoch beside it has stored.
 fn conflict_of(
     image: &Image,
     cores: u32,
@@ -151,7 +194,7 @@ fn conflict_of(
     memory: &mut [u8],
     lines: &mut Lines,
     touches: &mut Touches,
-) -> Option<CacheConflict>
+) -> Looked
     requires limits { IsImage image.now }
     requires within { epoch < image.now.epochs }
     requires starts { IsInOrder image.now (first_beside cores epoch) }
@@ -159,38 +202,45 @@ fn conflict_of(
     requires memory { memory.old ≡ run_memory image.now cores epoch }
     requires lines { AreLinesKept image.now cores epoch lines.old }
     requires touches { spec.AreTouchesKept image.now cores epoch touches.old }
-    ensures found { spec.IsFound image.now cores result }
-    ensures none { result ≡ None → spec.IsClear image.now cores epoch }
-    ensures lines { result ≡ None → AreLinesKept image.now cores (epoch + 1) lines.new }
-    ensures touches { result ≡ None → spec.AreTouchesKept image.now cores (epoch + 1) touches.new }
-    ensures done { result ≡ None → first_epochs image.now epoch ≡ record { end = Done epoch; bytes = memory.old } → IsInOrder image.now (epoch + 1)
-        → first_epochs image.now (epoch + 1) ≡ record { end = Done (epoch + 1); bytes = memory.new } }
+    ensures found { spec.IsFound image.now cores result.found }
+    ensures none { result.found ≡ None → spec.IsClear image.now cores epoch }
+    ensures lines { result.found ≡ None → AreLinesKept image.now cores (epoch + 1) lines.new }
+    ensures touches { result.found ≡ None → spec.AreTouchesKept image.now cores (epoch + 1) touches.new }
+    ensures next { result.found ≡ None → first_epochs image.now epoch ≡ record { end = Done epoch; bytes = memory.old } → IsNext image.now (epoch + 1) memory.new result.goes_on }
 {
     let first = epoch.saturating_sub(cores.saturating_sub(1));
-    let mut hart = start(image, epoch);
+    let mut arrived = advance(image, start(image, epoch));
     touches.begin();
     'accesses: loop {
-        let arrived = advance(image, hart);
         match arrived.at() {
             Stop::Load { addr, width, .. } => {
                 if lines.meets(image, epoch, first, addr, width) {
-                    return Some(CacheConflict::Line { later: epoch });
+                    return Looked {
+                        found: Some(CacheConflict::Line { later: epoch }),
+                        goes_on: false,
+                    };
                 }
                 touches.touch(image, epoch, addr, width);
-                hart = loaded(&arrived, read_number(memory, addr as usize, width));
+                arrived.advance_past_load(image, read_number(memory, addr as usize, width));
             }
             Stop::Store { addr, width, value } => {
                 write_number(memory, addr as usize, width, value);
                 lines.store(image, epoch, addr, width);
                 touches.touch(image, epoch, addr, width);
                 touches.store(image, epoch, first, addr, width);
-                hart = stored(&arrived);
+                arrived.advance_past_store(image);
             }
             Stop::Ended | Stop::Fault { .. } => {
                 if touches.overflows(image) {
-                    return Some(CacheConflict::Buffer { later: epoch });
+                    return Looked {
+                        found: Some(CacheConflict::Buffer { later: epoch }),
+                        goes_on: false,
+                    };
                 }
-                return None;
+                return Looked {
+                    found: None,
+                    goes_on: next_runs(image, &arrived),
+                };
             }
         }
     }

@@ -1,7 +1,9 @@
-ghost use Rattle.std.specs.Prelude.{◌≡◌, ◌≤◌, ℕ, IfOk, true, false, length, slice_index};
+ghost use Rattle.std.specs.Prelude.{◌≡◌, ◌<◌, ◌≤◌, ℕ, IfOk, IfSome, None, true, false, length, slice_index};
+ghost use Rattle.rv32_image.specs.Image.{IsImage};
 ghost use Rattle.dependences.specs.Conflict.{Conflict, ConflictInOrder};
 ghost use Rattle.dependences.specs.Kept as spec;
 ghost use Rattle.dependences.specs.Laws.{NeverOverBytes};
+ghost use Rattle.dependences.specs.Nearest.{IsNearest};
 
 use crate::alone::{meets_writer, run_between};
 use crate::nearest::run_all;
@@ -36,6 +38,22 @@ pub fn conflicts_over_bytes(alloc: Global, image: &Image, cores: u32) -> Result<
         return Ok(false);
     }
     conflicts_past_end(alloc, image, cores, ran.epochs, writers.as_slice())
+}
+
+/// The least number of cores, up to these, on which two epochs conflict over bytes, of a loop of which all epochs run in order,
+/// and the nearest that depend on each other are so far apart. None: on none of these cores any do, and no schedule has a violation.
+pub fn least_conflict_over_bytes(image: &Image, nearest: Option<u32>, cores: u32) -> Option<u32>
+    requires limits { IsImage image.now }
+    requires all { spec.AreAll image.now image.now.epochs }
+    requires nearest { IsNearest image.now nearest }
+    ensures found { IfSome result (λ least. (2 ≤ least) × (least ≤ cores) × ConflictInOrder image.now least) }
+    ensures fewer { IfSome result (λ least. (fewer : ℕ) → fewer < least → NeverOverBytes image.now fewer) }
+    ensures none { result ≡ None → (fewer : ℕ) → fewer ≤ cores → NeverOverBytes image.now fewer }
+{
+    match nearest {
+        Some(distance) if distance < cores => Some(distance + 1),
+        _ => None,
+    }
 }
 
 /// Whether two epochs that depend on each other are nearer than there are cores.

@@ -1,14 +1,17 @@
-ghost use Rattle.std.specs.Prelude.{◌≡◌, ℕ, ◌+◌, ◌<◌, ◌≤◌, ◌^◌, IfOk, true, false, [], length, slice_index};
+ghost use Rattle.std.specs.Prelude.{◌≡◌, ℕ, ◌+◌, ◌<◌, ◌≤◌, ◌^◌, IfOk, OnOk, ◌++◌, ◌∷◌, [], length, slice_index};
 ghost use Rattle.rv32_image.specs.Image.{IsImage};
 ghost use Rattle.rv32_exec.specs.declared.sequential.End.TheVariants.{Done};
 ghost use Rattle.rv32_exec.specs.Sequential.{first_epochs};
-ghost use Rattle.dependences.specs.Conflict.{IsInOrder};
 ghost use Rattle.dependences.specs.Flow.{AreDependences};
+ghost use Rattle.dependences.specs.Kept.{AreKept, IsNext, load_behind};
 ghost use Rattle.dependences.specs.KeptStores as spec;
+ghost use Rattle.dependences.specs.Lengths.{AreLengths, Lasts};
+ghost use Rattle.dependences.specs.Nearest.{IsNearest};
 
-use crate::nearest::mark;
+use crate::ends::next_runs;
+use crate::nearest::{mark, nearer_of};
 use memory_bytes::{read_number, write_number};
-use rv32_exec::{Hart, NoMemory, Stop, advance, loaded, start, stored};
+use rv32_exec::{Hart, NoMemory, Stop, advance, start};
 use rv32_image::Image;
 use std::alloc::Global;
 use std::marker::Model;
@@ -32,73 +35,153 @@ pub struct Dependence {
     pub byte: u32,
 }
 
-/// The dependences of the run in order: one of each load that reads from outside what an earlier epoch stores, in order.
+/// What the run in order shows.
+#[derive(Drop)]
+pub struct RunInOrder {
+    /// Its dependences: one of each load that reads from outside what an earlier epoch stores, in order.
+    pub found: Vec<Dependence>,
+    /// How many instructions each of its epochs executes, up to its end or fault.
+    pub lengths: Vec<u64>,
+    /// The least distance at which an epoch depends on an earlier one over bytes, if any does.
+    pub nearest: Option<u32>,
+}
+
+/// The dependences of the run in order, how many instructions its epochs execute, and how near they depend on each other: one
+/// run shows all.
 ///
-/// `NoMemory`: there was none for a copy of the image's bytes, three words beside each, and the dependences.
-pub fn dependences_in_order(alloc: Global, image: &Image) -> Result<Vec<Dependence>, NoMemory>
-    ensures { IfOk result (λ found. AreDependences image.now found.items) }
+/// `NoMemory`: there was none for a copy of the image's bytes, three words beside each, the dependences, and two words for each
+/// epoch.
+pub fn shown_in_order(alloc: Global, image: &Image) -> Result<RunInOrder, NoMemory>
+    ensures found { IfOk result (λ shown. AreDependences image.now shown.found.items) }
+    ensures lengths { IfOk result (λ shown. AreLengths image.now shown.lengths.items) }
+    ensures nearest { IfOk result (λ shown. IsNearest image.now shown.nearest) }
 {
     let mut memory = Vec::from_slice(alloc, image.bytes())?;
     let mut stores = LastStores::none(alloc, image.size() as usize)?;
     let mut found = Vec::new(alloc);
-    run_all(image, memory.as_mut_slice(), &mut stores, &mut found)?;
-    Ok(found)
+    let mut lengths = Vec::new(alloc);
+    let nearest = run_all(
+        image,
+        memory.as_mut_slice(),
+        &mut stores,
+        &mut found,
+        &mut lengths,
+    )?;
+    Ok(RunInOrder {
+        found,
+        lengths,
+        nearest,
+    })
 }
 
-/// Runs the epochs over memory, in order, and notes their dependences. No byte has been stored before.
+/// The dependences of the run in order: one of each load that reads from outside what an earlier epoch stores, in order.
+///
+/// `NoMemory`: there was none for what `shown_in_order` takes.
+pub fn dependences_in_order(alloc: Global, image: &Image) -> Result<Vec<Dependence>, NoMemory>
+    ensures { IfOk result (λ found. AreDependences image.now found.items) }
+{
+    let shown = shown_in_order(alloc, image)?;
+    Ok(shown.found)
+}
+
+/// How many instructions each epoch executes that runs in order, up to its end or fault.
+///
+/// `NoMemory`: there was none for what `shown_in_order` takes.
+pub fn lengths_in_order(alloc: Global, image: &Image) -> Result<Vec<u64>, NoMemory>
+    ensures { IfOk result (λ lengths. AreLengths image.now lengths.items) }
+{
+    let shown = shown_in_order(alloc, image)?;
+    Ok(shown.lengths)
+}
+
+/// Runs the epochs over memory, in order, and notes their dependences and their lengths. No byte has been stored before. Answers
+/// how near they depend on each other.
 fn run_all(
     image: &Image,
     memory: &mut [u8],
     stores: &mut LastStores,
     found: &mut Vec<Dependence>,
-) -> Result<(), NoMemory>
+    lengths: &mut Vec<u64>,
+) -> Result<Option<u32>, NoMemory>
     requires memory { memory.old ≡ image.now.bytes }
     requires long { spec.AreLong stores.old image.now.size }
     requires none { (a : ℕ) → slice_index stores.old.writers a ≡ 0 }
     requires found { found.old.items ≡ [] }
-    ensures { IfOk result (λ done. AreDependences image.now found.new.items) }
+    requires lengths { lengths.old.items ≡ [] }
+    ensures found { IfOk result (λ done. AreDependences image.now found.new.items) }
+    ensures lengths { IfOk result (λ done. AreLengths image.now lengths.new.items) }
+    ensures nearest { IfOk result (IsNearest image.now) }
 {
+    let mut nearest = None;
     for epoch in 0..image.epochs() {
-        if !follow(image, epoch, memory, stores, found)? {
-            return Ok(());
+        let ran = follow(image, epoch, memory, stores, found, nearest)?;
+        nearest = ran.nearest;
+        add(lengths, ran.length)?;
+        if !ran.goes_on {
+            return Ok(nearest);
         }
     }
-    Ok(())
+    Ok(nearest)
 }
 
-/// Runs one epoch over memory, notes its dependences, and keeps the last store of each byte. Answers whether the next one runs.
+/// Adds the length of one more epoch.
+fn add(lengths: &mut Vec<u64>, count: u64) -> Result<(), NoMemory>
+    ensures { OnOk result (lengths.new.items ≡ lengths.old.items ++ count ∷ []) }
+{
+    lengths.push(count).map_err(|_| NoMemory)
+}
+
+/// What came of an epoch: how many instructions it has executed, whether the next one runs, and how near epochs depend on each
+/// other so far.
+#[derive(Clone, Copy)]
+struct Ran {
+    length: u64,
+    goes_on: bool,
+    nearest: Option<u32>,
+}
+
+/// Runs one epoch over memory, notes its dependences, and keeps the last store of each byte.
 fn follow(
     image: &Image,
     epoch: u32,
     memory: &mut [u8],
     stores: &mut LastStores,
     found: &mut Vec<Dependence>,
-) -> Result<bool, NoMemory>
+    nearest: Option<u32>,
+) -> Result<Ran, NoMemory>
     requires limits { IsImage image.now }
     requires size { length memory.old ≡ image.now.size }
     requires epoch { epoch < image.now.epochs }
     requires before { first_epochs image.now epoch ≡ record { end = Done epoch; bytes = memory.old } }
     requires kept { spec.AreStoresKept image.now epoch stores.old found.old.items }
-    ensures kept { IfOk result (λ goes_on. spec.AreStoresKept image.now (epoch + 1) stores.new found.new.items) }
-    ensures goes_on { IfOk result (λ goes_on. goes_on ≡ true → first_epochs image.now (epoch + 1) ≡ record { end = Done (epoch + 1); bytes = memory.new }) }
-    ensures ends { IfOk result (λ goes_on. goes_on ≡ false → IsInOrder image.now (epoch + 1) → ⊥) }
+    requires writers { AreKept image.now epoch stores.old.writers nearest }
+    ensures kept { IfOk result (λ ran. spec.AreStoresKept image.now (epoch + 1) stores.new found.new.items) }
+    ensures writers { IfOk result (λ ran. AreKept image.now (epoch + 1) stores.new.writers ran.nearest) }
+    ensures lasts { IfOk result (λ ran. Lasts image.now epoch ran.length) }
+    ensures next { IfOk result (λ ran. IsNext image.now (epoch + 1) memory.new ran.goes_on) }
 {
-    let mut hart = start(image, epoch);
+    let mut nearest = nearest;
+    let mut arrived = advance(image, start(image, epoch));
     'accesses: loop {
-        let arrived = advance(image, hart);
         let now = arrived.now();
         match arrived.at() {
             Stop::Load { addr, width, .. } => {
+                nearest = stores.nearest_with(epoch, addr, width, nearest);
                 note_load(stores, epoch, &now, addr, width, found)?;
-                hart = loaded(&arrived, read_number(memory, addr as usize, width));
+                arrived.advance_past_load(image, read_number(memory, addr as usize, width));
             }
             Stop::Store { addr, width, value } => {
                 write_number(memory, addr as usize, width, value);
                 stores.mark(addr, width, epoch + 1, &now);
-                hart = stored(&arrived);
+                arrived.advance_past_store(image);
             }
-            Stop::Ended => return Ok(!now.exits(image)),
-            Stop::Fault { .. } => return Ok(false),
+            Stop::Ended | Stop::Fault { .. } => {
+                return Ok(Ran {
+                    length: now.done(),
+                    goes_on: next_runs(image, &arrived),
+                    nearest,
+                });
+            }
         }
     }
 }
@@ -174,6 +257,17 @@ impl LastStores {
             steps,
             pcs,
         })
+    }
+
+    /// The nearest of what was found, and of the epochs that last stored the bytes of a load.
+    fn nearest_with(&self, epoch: u32, addr: u32, width: u32, nearest: Option<u32>) -> Option<u32>
+        requires small { length self.now.writers < 2 ^ 32 }
+        requires within { addr + width ≤ length self.now.writers }
+        requires epoch { epoch < 2 ^ 16 }
+        requires earlier { (a : ℕ) → slice_index self.now.writers a ≤ epoch + 1 }
+        ensures { result ≡ load_behind self.now.writers epoch addr width nearest }
+    {
+        nearer_of(self.writers.as_slice(), epoch, addr, width, nearest)
     }
 
     /// Keeps the store of these bytes that this hart is at.

@@ -4,10 +4,10 @@
 mod alone;
 mod caches;
 mod conflict;
+mod ends;
 mod flow;
 mod last_two;
 pub mod laws;
-mod lengths;
 mod lines;
 mod nearest;
 mod pairs;
@@ -16,9 +16,8 @@ mod stores;
 mod touches;
 
 pub use caches::{CacheConflict, conflict_over_caches};
-pub use conflict::conflicts_over_bytes;
-pub use flow::{Dependence, dependences_in_order};
-pub use lengths::lengths_in_order;
+pub use conflict::{conflicts_over_bytes, least_conflict_over_bytes};
+pub use flow::{Dependence, RunInOrder, dependences_in_order, lengths_in_order, shown_in_order};
 pub use nearest::nearest_dependence;
 pub use pairs::{PairSum, sums_by_pair};
 pub use pieces::Pieces;

@@ -109,7 +109,7 @@ fn follow(
 }
 
 /// The nearest of what was found, and of the epochs that last wrote the bytes of a load.
-fn nearer_of(
+pub(crate) fn nearer_of(
     writers: &[u32],
     epoch: u32,
     addr: u32,

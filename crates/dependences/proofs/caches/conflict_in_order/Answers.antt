@@ -1,26 +1,88 @@
-use Rattle.std.proofs.Common.{◌+◌, ℕ, List, length, sym, ap, ◌∙◌}
+use Rattle.std.proofs.Common.{◌≡◌, ◌+◌, ℕ, List, length, sym, ap, subst, ◌∙◌, arith}
 use Rattle.rv32_exec.specs.declared.sequential.End.TheVariants.{Done}
 use Rattle.rv32_exec.specs.Sequential.{SequentialResult}
 use Rattle.rv32_exec.proofs.Epochs.{first_epochs-none}
+use Rattle.dependences.specs.Conflict.{IsInOrder, first_beside}
+use Rattle.dependences.specs.Kept.{IsNext}
+use Rattle.dependences.specs.KeptLines.{AreLinesKept}
+use Rattle.dependences.specs.KeptTouches.{AreClear, AreTouchesKept}
 use Rattle.dependences.proofs.Caching.{clear_first, clear_more, none_of}
+use Rattle.dependences.proofs.Ending.{all_by_end, all_by_last}
+use Rattle.dependences.proofs.InOrder.{all_in_order, low_most}
 use Rattle.dependences.proofs.caches.conflict_in_order.Goals as goal
 
 pub loop-epoch-init : goal.loop-epoch-init
 loop-epoch-init c = record {
-  before = λ low. first_epochs-none c.args.image.now ∙ ap (λ (m : List ℕ). let r : SequentialResult = record { end = Done 0; bytes = m } in r) (sym c.requires.memory);
-  size = ap length c.requires.memory ∙ c.requires.limits.byte_count;
+  before = first_epochs-none c.args.image.now ∙ ap (λ (m : List ℕ). let r : SequentialResult = record { end = Done 0; bytes = m } in r) (sym c.requires.memory);
+  size = ap length c.requires.memory ∙ c.epochs-epoch-end.ensures.limits.byte_count;
   lines = c.requires.lines;
   touches = c.requires.touches;
   clear = clear_first c.args.image.now c.args.cores;
 }
 
+pub conflict_of-looked-requires-clause-starts : goal.conflict_of-looked-requires-clause-starts
+conflict_of-looked-requires-clause-starts c =
+    let image = c.args.image.now in
+    let epoch = c.loop-epoch.epoch in
+    all_in_order image epoch (first_beside c.args.cores epoch) (ap (λ (r : SequentialResult). r.end) c.loop-epoch.invariant.before) (low_most c.args.cores epoch)
+
 pub loop-epoch-preserved : goal.loop-epoch-preserved
 loop-epoch-preserved c =
-    let none = none_of c.conflict_of-found.result (sym c.is_some.ensures ∙ c.if-is_some.false) in
+    let image = c.args.image.now in
+    let epoch = c.loop-epoch.epoch in
+    let looked = c.conflict_of-looked.result in
+    let none = none_of looked.found (sym c.is_some.ensures ∙ c.if-is_some.false) in
     record {
-      before = λ low. c.conflict_of-found.ensures.done none (c.loop-epoch.invariant.before c.loop-epoch-test.true) (c.requires.all.each (c.loop-epoch.epoch + 1) low);
-      size = c.conflict_of-found.auto.memory ∙ c.loop-epoch.invariant.size;
-      lines = c.conflict_of-found.ensures.lines none;
-      touches = c.conflict_of-found.ensures.touches none;
-      clear = clear_more c.args.image.now c.args.cores c.loop-epoch.epoch (c.conflict_of-found.ensures.none none) c.loop-epoch.invariant.clear;
+      before = subst (IsNext image (epoch + 1) c.conflict_of-looked.new.memory) c.if-not-looked.false
+          (c.conflict_of-looked.ensures.next none c.loop-epoch.invariant.before);
+      size = c.conflict_of-looked.auto.memory ∙ c.loop-epoch.invariant.size;
+      lines = c.conflict_of-looked.ensures.lines none;
+      touches = c.conflict_of-looked.ensures.touches none;
+      clear = clear_more image c.args.cores epoch (c.conflict_of-looked.ensures.none none) c.loop-epoch.invariant.clear;
     }
+
+pub returns-then-not-looked-clause-all : goal.returns-then-not-looked-clause-all
+returns-then-not-looked-clause-all c is =
+    let image = c.args.image.now in
+    let epoch = c.loop-epoch.epoch in
+    let looked = c.conflict_of-looked.result in
+    let none = none_of looked.found (sym c.is_some.ensures ∙ c.if-is_some.false) in
+    all_by_last image epoch (omega (arith, c.loop-epoch-test.true, c.epochs-epoch-end.ensures.epochs)) (ap (λ (r : SequentialResult). r.end) c.loop-epoch.invariant.before)
+    (subst (IsNext image (epoch + 1) c.conflict_of-looked.new.memory) c.if-not-looked.true
+    (c.conflict_of-looked.ensures.next none c.loop-epoch.invariant.before))
+
+pub returns-then-not-looked-clause-none : goal.returns-then-not-looked-clause-none
+returns-then-not-looked-clause-none c is =
+    clear_more c.args.image.now c.args.cores c.loop-epoch.epoch
+    (c.conflict_of-looked.ensures.none (none_of c.conflict_of-looked.result.found (sym c.is_some.ensures ∙ c.if-is_some.false))) c.loop-epoch.invariant.clear
+
+pub returns-then-not-looked-clause-lines : goal.returns-then-not-looked-clause-lines
+returns-then-not-looked-clause-lines c is = c.conflict_of-looked.ensures.lines (none_of c.conflict_of-looked.result.found (sym c.is_some.ensures ∙ c.if-is_some.false))
+
+pub returns-then-not-looked-clause-touches : goal.returns-then-not-looked-clause-touches
+returns-then-not-looked-clause-touches c is = c.conflict_of-looked.ensures.touches (none_of c.conflict_of-looked.result.found (sym c.is_some.ensures ∙ c.if-is_some.false))
+
+pub returns-clause-all : goal.returns-clause-all
+returns-clause-all c is =
+    let image = c.args.image.now in
+    let last : c.loop-epoch.epoch ≡ image.epochs = omega (arith, c.epochs-epoch-end.ensures.epochs) in
+    let order : IsInOrder image image.epochs = subst (λ n. IsInOrder image n) last (ap (λ (r : SequentialResult). r.end) c.loop-epoch.invariant.before) in
+    rw c.epochs.ensures.epochs (all_by_end image order)
+
+pub returns-clause-none : goal.returns-clause-none
+returns-clause-none c is =
+    let image = c.args.image.now in
+    let last : c.loop-epoch.epoch ≡ image.epochs = omega (arith, c.epochs-epoch-end.ensures.epochs) in
+    rw c.epochs.ensures.epochs (subst (λ n. AreClear image c.args.cores n) last c.loop-epoch.invariant.clear)
+
+pub returns-clause-lines : goal.returns-clause-lines
+returns-clause-lines c is =
+    let image = c.args.image.now in
+    let last : c.loop-epoch.epoch ≡ image.epochs = omega (arith, c.epochs-epoch-end.ensures.epochs) in
+    rw c.epochs.ensures.epochs (subst (λ n. AreLinesKept image c.args.cores n c.loop-epoch.lines) last c.loop-epoch.invariant.lines)
+
+pub returns-clause-touches : goal.returns-clause-touches
+returns-clause-touches c is =
+    let image = c.args.image.now in
+    let last : c.loop-epoch.epoch ≡ image.epochs = omega (arith, c.epochs-epoch-end.ensures.epochs) in
+    rw c.epochs.ensures.epochs (subst (λ n. AreTouchesKept image c.args.cores n c.loop-epoch.touches) last c.loop-epoch.invariant.touches)

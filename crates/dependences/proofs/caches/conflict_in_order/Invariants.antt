@@ -1,14 +1,14 @@
-use Rattle.std.proofs.Common.{◌≡◌, ◌<◌, length}
+use Rattle.std.proofs.Common.{◌≡◌, length}
 use Rattle.rv32_exec.specs.declared.sequential.End.TheVariants.{Done}
 use Rattle.rv32_exec.specs.Sequential.{first_epochs}
 use Rattle.dependences.specs.KeptLines.{AreLinesKept}
 use Rattle.dependences.specs.KeptTouches.{AreClear, AreTouchesKept}
 use Rattle.dependences.proofs.caches.conflict_in_order.Given as goal
 
--- none of the epochs so far conflicts with one before it
+-- the epochs so far are done, and none of them conflicts with one before it
 abbrev pub invariant-loop-epoch : goal.invariant-loop-epoch
 invariant-loop-epoch l = record {
-  before : l.epoch < l.ran → first_epochs l.image l.epoch ≡ record { end = Done l.epoch; bytes = l.memory };
+  before : first_epochs l.image l.epoch ≡ record { end = Done l.epoch; bytes = l.memory };
   size : length l.memory ≡ l.image.size;
   lines : AreLinesKept l.image l.cores l.epoch l.lines;
   touches : AreTouchesKept l.image l.cores l.epoch l.touches;

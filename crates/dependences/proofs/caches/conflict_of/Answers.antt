@@ -9,25 +9,28 @@ use Rattle.spec_history.proofs.OneEntry.Accesses.{load_counts}
 use Rattle.dependences.specs.Conflict.{first_beside}
 use Rattle.dependences.specs.KeptLines.{AreLinesNoted, MeetsLine}
 use Rattle.dependences.specs.KeptTouches.{AreCounted, AreStoredIn}
-use Rattle.dependences.proofs.Outside.{goes_on, no_fault}
+use Rattle.dependences.proofs.Arriving.{has_come}
+use Rattle.dependences.proofs.Outside.{next_so}
 use Rattle.dependences.proofs.Lining.{line_conflict, lines_kept, lines_load, lines_path, lines_start, lines_store, meets_none}
 use Rattle.dependences.proofs.Buffering.{buffer_conflict, buffers_kept, buffers_load, buffers_start, buffers_store, counted_on, no_overflow, stored_from}
 use Rattle.dependences.proofs.caches.conflict_of.Goals as goal
 
 pub accesses-init : goal.accesses-init
 accesses-init c = record {
-  in_lines = rw c.start-hart.ensures
+  in_lines = rw (c.advance-arrived.ensures.base, c.start.ensures)
       (lines_start c.args.image.now c.args.cores c.args.epoch c.args.memory.now c.args.lines.now c.requires.size c.requires.lines);
-  in_buffers = rw (c.start-hart.ensures, c.begin.ensures)
+  in_buffers = rw (c.advance-arrived.ensures.base, c.start.ensures, c.begin.ensures)
       (buffers_start c.args.image.now c.args.cores c.args.epoch c.args.memory.now c.args.touches.now c.requires.size c.requires.touches);
-  within = rw c.start-hart.ensures (omega arith);
+  come = has_come c.args.image.now c.advance-arrived.result c.start.result c.advance-arrived.ensures.base c.advance-arrived.ensures.now c.advance-arrived.ensures.at
+      c.advance-arrived.ensures.stop;
+  within = rw (c.advance-arrived.ensures.base, c.start.ensures) (omega arith);
 }
 
 pub returns-then-meets-clause-found : goal.returns-then-meets-clause-found
 returns-then-meets-clause-found c =
     let image = c.args.image.now in
-    let h = c.accesses.hart in
-    let is : (next_event image h).at ≡ stop.Load c.in-Load.addr c.in-Load.width c.in-Load.signed c.in-Load.rd = sym c.advance-arrived.ensures.at ∙ (sym c.at.ensures.at ∙ c.in-Load.is) in
+    let h = c.accesses.arrived.base in
+    let is : (next_event image h).at ≡ stop.Load c.in-Load.addr c.in-Load.width c.in-Load.signed c.in-Load.rd = sym c.accesses.invariant.come.at ∙ (sym c.at.ensures.at ∙ c.in-Load.is) in
     let first : c.saturating_sub-first.result ≡ first_beside c.args.cores c.args.epoch = c.saturating_sub-first.ensures ∙ ap (λ n. c.args.epoch - n) c.saturating_sub.ensures in
     line_conflict image c.args.cores c.args.epoch c.args.memory.now c.accesses.memory c.accesses.lines h c.accesses.invariant.in_lines
     c.in-Load.addr c.in-Load.width c.in-Load.signed c.in-Load.rd is c.requires.memory c.requires.within c.requires.starts
@@ -36,10 +39,11 @@ returns-then-meets-clause-found c =
 pub accesses-preserved-in-Load : goal.accesses-preserved-in-Load
 accesses-preserved-in-Load c =
     let image = c.args.image.now in
-    let h = c.accesses.hart in
-    let is : (next_event image h).at ≡ stop.Load c.in-Load.addr c.in-Load.width c.in-Load.signed c.in-Load.rd = sym c.advance-arrived.ensures.at ∙ (sym c.at.ensures.at ∙ c.in-Load.is) in
-    let hart : c.loaded-hart.result ≡ after_number (next_event image h).now (next_event image h).at c.read_number.result =
-    rw (c.advance-arrived.ensures.now, c.advance-arrived.ensures.at) at c.loaded-hart.ensures in
+    let h = c.accesses.arrived.base in
+    let is : (next_event image h).at ≡ stop.Load c.in-Load.addr c.in-Load.width c.in-Load.signed c.in-Load.rd = sym c.accesses.invariant.come.at ∙ (sym c.at.ensures.at ∙ c.in-Load.is) in
+    let past = c.advance_past_load.ensures in
+    let hart : c.advance_past_load.new.self.base ≡ after_number (next_event image h).now (next_event image h).at c.read_number.result =
+    rw (c.accesses.invariant.come.now, c.accesses.invariant.come.at) at past.base in
     let first : c.saturating_sub-first.result ≡ first_beside c.args.cores c.args.epoch = c.saturating_sub-first.ensures ∙ ap (λ n. c.args.epoch - n) c.saturating_sub.ensures in
     let unmet = subst (λ n. MeetsLine image c.accesses.lines c.args.epoch n c.in-Load.addr c.in-Load.width → ⊥) first (c.meets.ensures.none c.if-meets.false) in
     let lines = lines_load image c.args.cores c.args.epoch c.args.memory.now c.accesses.memory c.accesses.lines h c.accesses.invariant.in_lines
@@ -50,7 +54,12 @@ accesses-preserved-in-Load c =
     let access : IsAccess image (next_event image h).now c.in-Load.addr c.in-Load.width = rw is at (stop_of_event image h) in
     let room = access.room in
     let count = load_counts image h c.in-Load.addr c.in-Load.width c.in-Load.signed c.in-Load.rd c.read_number.result is in
-    record { in_lines = rw hart lines; in_buffers = rw hart buffers; within = rw hart (omega (arith, count, room)) }
+    record {
+      in_lines = rw hart lines;
+      in_buffers = rw hart buffers;
+      come = has_come image c.advance_past_load.new.self _ past.base past.now past.at past.stop;
+      within = rw hart (omega (arith, count, room));
+    }
 
 pub store-requires-in-Store-clause-counted : goal.store-requires-in-Store-clause-counted
 store-requires-in-Store-clause-counted c =
@@ -62,9 +71,10 @@ store-requires-in-Store-clause-counted c =
 pub accesses-preserved : goal.accesses-preserved
 accesses-preserved c =
     let image = c.args.image.now in
-    let h = c.accesses.hart in
-    let is : (next_event image h).at ≡ stop.Store c.in-Store.addr c.in-Store.width c.in-Store.value = sym c.advance-arrived.ensures.at ∙ (sym c.at.ensures.at ∙ c.in-Store.is) in
-    let hart : c.stored-hart.result ≡ stepped (next_event image h).now = rw c.advance-arrived.ensures.now at c.stored-hart.ensures in
+    let h = c.accesses.arrived.base in
+    let is : (next_event image h).at ≡ stop.Store c.in-Store.addr c.in-Store.width c.in-Store.value = sym c.accesses.invariant.come.at ∙ (sym c.at.ensures.at ∙ c.in-Store.is) in
+    let past = c.advance_past_store.ensures in
+    let hart : c.advance_past_store.new.self.base ≡ stepped (next_event image h).now = rw c.accesses.invariant.come.now at past.base in
     let first : c.saturating_sub-first.result ≡ first_beside c.args.cores c.args.epoch = c.saturating_sub-first.ensures ∙ ap (λ n. c.args.epoch - n) c.saturating_sub.ensures in
     let lines = lines_store image c.args.cores c.args.epoch c.args.memory.now c.accesses.memory c.accesses.lines h c.accesses.invariant.in_lines
     c.store.new.self c.in-Store.addr c.in-Store.width c.in-Store.value is c.store.ensures in
@@ -76,48 +86,51 @@ accesses-preserved c =
     c.in-Store.addr c.in-Store.width c.in-Store.value is noted are in
     let store : IsStore image (next_event image h).now c.in-Store.addr c.in-Store.width c.in-Store.value = rw is at (stop_of_event image h) in
     let room = store.access.room in
-    record { in_lines = rw (c.write_number.ensures, hart) lines; in_buffers = rw (c.write_number.ensures, hart) buffers; within = rw hart (omega (arith, room)) }
+    record {
+      in_lines = rw (c.write_number.ensures, hart) lines;
+      in_buffers = rw (c.write_number.ensures, hart) buffers;
+      come = has_come image c.advance_past_store.new.self _ past.base past.now past.at past.stop;
+      within = rw hart (omega (arith, room));
+    }
 
 pub returns-then-overflows-clause-found : goal.returns-then-overflows-clause-found
 returns-then-overflows-clause-found c =
     let image = c.args.image.now in
-    let at : (next_event image c.accesses.hart).at ≡ c.at.result = sym c.advance-arrived.ensures.at ∙ sym c.at.ensures.at in
-    buffer_conflict image c.args.cores c.args.epoch c.args.memory.now c.accesses.memory c.accesses.touches c.accesses.hart c.accesses.invariant.in_buffers
+    let at : (next_event image c.accesses.arrived.base).at ≡ c.at.result = sym c.accesses.invariant.come.at ∙ sym c.at.ensures.at in
+    buffer_conflict image c.args.cores c.args.epoch c.args.memory.now c.accesses.memory c.accesses.touches c.accesses.arrived.base c.accesses.invariant.in_buffers
     (elim c.in-Ended.is [ inl ended ↦ rw (at ∙ ended) tt | inr fault ↦ rw (at ∙ fault.2) tt ]) c.requires.memory c.requires.within c.requires.starts
     (sym c.overflows.ensures ∙ c.if-overflows.true)
 
 pub returns-in-Ended-clause-none : goal.returns-in-Ended-clause-none
 returns-in-Ended-clause-none c none =
     let image = c.args.image.now in
-    let at : (next_event image c.accesses.hart).at ≡ c.at.result = sym c.advance-arrived.ensures.at ∙ sym c.at.ensures.at in
+    let at : (next_event image c.accesses.arrived.base).at ≡ c.at.result = sym c.accesses.invariant.come.at ∙ sym c.at.ensures.at in
     record {
-      lines = meets_none image c.args.cores c.args.epoch c.args.memory.now c.accesses.memory c.accesses.lines c.accesses.hart c.accesses.invariant.in_lines
+      lines = meets_none image c.args.cores c.args.epoch c.args.memory.now c.accesses.memory c.accesses.lines c.accesses.arrived.base c.accesses.invariant.in_lines
           (elim c.in-Ended.is [ inl ended ↦ rw (at ∙ ended) tt | inr fault ↦ rw (at ∙ fault.2) tt ]) c.requires.memory;
-      buffers = no_overflow image c.args.cores c.args.epoch c.args.memory.now c.accesses.memory c.accesses.touches c.accesses.hart c.accesses.invariant.in_buffers
+      buffers = no_overflow image c.args.cores c.args.epoch c.args.memory.now c.accesses.memory c.accesses.touches c.accesses.arrived.base c.accesses.invariant.in_buffers
           (elim c.in-Ended.is [ inl ended ↦ rw (at ∙ ended) tt | inr fault ↦ rw (at ∙ fault.2) tt ]) c.requires.memory (sym c.overflows.ensures ∙ c.if-overflows.false);
     }
 
 pub returns-in-Ended-clause-lines : goal.returns-in-Ended-clause-lines
 returns-in-Ended-clause-lines c none =
     let image = c.args.image.now in
-    let at : (next_event image c.accesses.hart).at ≡ c.at.result = sym c.advance-arrived.ensures.at ∙ sym c.at.ensures.at in
-    lines_kept image c.args.cores c.args.epoch c.args.memory.now c.accesses.memory c.accesses.lines c.accesses.hart c.accesses.invariant.in_lines
+    let at : (next_event image c.accesses.arrived.base).at ≡ c.at.result = sym c.accesses.invariant.come.at ∙ sym c.at.ensures.at in
+    lines_kept image c.args.cores c.args.epoch c.args.memory.now c.accesses.memory c.accesses.lines c.accesses.arrived.base c.accesses.invariant.in_lines
     (elim c.in-Ended.is [ inl ended ↦ rw (at ∙ ended) tt | inr fault ↦ rw (at ∙ fault.2) tt ]) c.requires.memory
 
 pub returns-in-Ended-clause-touches : goal.returns-in-Ended-clause-touches
 returns-in-Ended-clause-touches c none =
     let image = c.args.image.now in
-    let at : (next_event image c.accesses.hart).at ≡ c.at.result = sym c.advance-arrived.ensures.at ∙ sym c.at.ensures.at in
-    buffers_kept image c.args.cores c.args.epoch c.args.memory.now c.accesses.memory c.accesses.touches c.accesses.hart c.accesses.invariant.in_buffers
+    let at : (next_event image c.accesses.arrived.base).at ≡ c.at.result = sym c.accesses.invariant.come.at ∙ sym c.at.ensures.at in
+    buffers_kept image c.args.cores c.args.epoch c.args.memory.now c.accesses.memory c.accesses.touches c.accesses.arrived.base c.accesses.invariant.in_buffers
     (elim c.in-Ended.is [ inl ended ↦ rw (at ∙ ended) tt | inr fault ↦ rw (at ∙ fault.2) tt ]) c.requires.memory
 
-pub returns-in-Ended-clause-done : goal.returns-in-Ended-clause-done
-returns-in-Ended-clause-done c none done order =
+pub returns-in-Ended-clause-next : goal.returns-in-Ended-clause-next
+returns-in-Ended-clause-next c none done =
     let image = c.args.image.now in
-    let h = c.accesses.hart in
-    let at : (next_event image h).at ≡ c.at.result = sym c.advance-arrived.ensures.at ∙ sym c.at.ensures.at in
-    let path = lines_path image c.args.cores c.args.epoch c.args.memory.now c.accesses.memory c.accesses.lines h c.accesses.invariant.in_lines in
-    elim c.in-Ended.is [
-      | inl ended ↦ goes_on image c.args.epoch c.args.memory.now c.accesses.memory h path done (at ∙ ended) order
-      | inr fault ↦ absurd (no_fault image c.args.epoch c.args.memory.now c.accesses.memory h path done fault.0 fault.1 (at ∙ fault.2) order)
-    ]
+    let at : (next_event image c.accesses.arrived.base).at ≡ c.at.result = sym c.accesses.invariant.come.at ∙ sym c.at.ensures.at in
+    let path = lines_path image c.args.cores c.args.epoch c.args.memory.now c.accesses.memory c.accesses.lines c.accesses.arrived.base c.accesses.invariant.in_lines in
+    rw (c.next_runs.ensures, c.accesses.invariant.come.now, c.accesses.invariant.come.at)
+    (next_so image c.args.epoch c.args.memory.now c.accesses.memory c.accesses.arrived.base path done
+    (elim c.in-Ended.is [ inl ended ↦ rw (at ∙ ended) tt | inr fault ↦ rw (at ∙ fault.2) tt ]))

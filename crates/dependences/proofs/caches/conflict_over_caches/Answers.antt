@@ -1,37 +1,54 @@
-use Rattle.std.proofs.Common.{sym, ◌∙◌}
+use Rattle.std.proofs.Common.{◌≡◌, ◌≤◌, ℕ, None, Option, sym, ◌∙◌}
+use Rattle.std.proofs.lemmas.Result.{IfOk-weaker}
+use Rattle.dependences.specs.declared.caches.CacheConflict.{CacheConflict}
+use Rattle.dependences.specs.Conflict.{LineConflict, Overflow}
+use Rattle.dependences.specs.KeptTouches.{IsNever}
+use Rattle.dependences.specs.Laws.{NeverOverLines}
 use Rattle.dependences.proofs.Caching.{never_alone, never_buffers, never_lines, none_of}
 use Rattle.dependences.proofs.Nevers.{never_lines_on_fewer}
 use Rattle.dependences.proofs.caches.conflict_over_caches.Goals as goal
 
+pub conflict_past_end-requires-clause-all : goal.conflict_past_end-requires-clause-all
+conflict_past_end-requires-clause-all c = c.conflict_in_order-ran.ensures.all (none_of c.conflict_in_order-ran.result.found (sym c.is_some.ensures ∙ c.if-is_some.false))
+
 pub conflict_past_end-requires-clause-lines : goal.conflict_past_end-requires-clause-lines
-conflict_past_end-requires-clause-lines c = c.conflict_in_order-found.ensures.lines (none_of c.conflict_in_order-found.result (sym c.is_some.ensures ∙ c.if-is_some.false))
+conflict_past_end-requires-clause-lines c = c.conflict_in_order-ran.ensures.lines (none_of c.conflict_in_order-ran.result.found (sym c.is_some.ensures ∙ c.if-is_some.false))
 
 pub conflict_past_end-requires-clause-touches : goal.conflict_past_end-requires-clause-touches
-conflict_past_end-requires-clause-touches c = c.conflict_in_order-found.ensures.touches (none_of c.conflict_in_order-found.result (sym c.is_some.ensures ∙ c.if-is_some.false))
+conflict_past_end-requires-clause-touches c = c.conflict_in_order-ran.ensures.touches (none_of c.conflict_in_order-ran.result.found (sym c.is_some.ensures ∙ c.if-is_some.false))
 
 pub conflict_past_end-requires-clause-clear : goal.conflict_past_end-requires-clause-clear
-conflict_past_end-requires-clause-clear c = c.conflict_in_order-found.ensures.none (none_of c.conflict_in_order-found.result (sym c.is_some.ensures ∙ c.if-is_some.false))
+conflict_past_end-requires-clause-clear c = c.conflict_in_order-ran.ensures.none (none_of c.conflict_in_order-ran.result.found (sym c.is_some.ensures ∙ c.if-is_some.false))
 
 pub returns-clause-lines : goal.returns-clause-lines
-returns-clause-lines c none = never_lines c.args.image.now c.args.cores c.bytes.ensures.limits (c.conflict_past_end.ensures.none none)
+returns-clause-lines c =
+    IfOk-weaker c.conflict_past_end.result (λ (found : Option CacheConflict). found ≡ None → IsNever c.args.image.now c.args.cores)
+    (λ (found : Option CacheConflict). found ≡ None → LineConflict c.args.image.now c.args.cores → ⊥)
+    (λ found never none. never_lines c.args.image.now c.args.cores c.bytes-bytes.ensures.limits (never none)) c.conflict_past_end.ensures.none
 
 pub returns-clause-buffers : goal.returns-clause-buffers
-returns-clause-buffers c none = never_buffers c.args.image.now c.args.cores c.bytes.ensures.limits (c.conflict_past_end.ensures.none none)
+returns-clause-buffers c =
+    IfOk-weaker c.conflict_past_end.result (λ (found : Option CacheConflict). found ≡ None → IsNever c.args.image.now c.args.cores)
+    (λ (found : Option CacheConflict). found ≡ None → Overflow c.args.image.now c.args.cores → ⊥)
+    (λ found never none. never_buffers c.args.image.now c.args.cores c.bytes-bytes.ensures.limits (never none)) c.conflict_past_end.ensures.none
 
 pub returns-clause-never : goal.returns-clause-never
-returns-clause-never c none = never_lines_on_fewer c.args.image.now c.args.cores c.bytes.ensures.limits (c.conflict_past_end.ensures.none none)
+returns-clause-never c =
+    IfOk-weaker c.conflict_past_end.result (λ (found : Option CacheConflict). found ≡ None → IsNever c.args.image.now c.args.cores)
+    (λ (found : Option CacheConflict). found ≡ None → (fewer : ℕ) → fewer ≤ c.args.cores → NeverOverLines c.args.image.now fewer)
+    (λ found never none. never_lines_on_fewer c.args.image.now c.args.cores c.bytes-bytes.ensures.limits (never none)) c.conflict_past_end.ensures.none
 
 pub returns-then-cores-lt2-clause-none : goal.returns-then-cores-lt2-clause-none
 returns-then-cores-lt2-clause-none c none = never_alone c.args.image.now c.args.cores c.if-cores-lt2.true
 
 pub returns-then-cores-lt2-clause-lines : goal.returns-then-cores-lt2-clause-lines
 returns-then-cores-lt2-clause-lines c none =
-    never_lines c.args.image.now c.args.cores c.size-size.ensures.limits (never_alone c.args.image.now c.args.cores c.if-cores-lt2.true)
+    never_lines c.args.image.now c.args.cores c.bytes-bytes.ensures.limits (never_alone c.args.image.now c.args.cores c.if-cores-lt2.true)
 
 pub returns-then-cores-lt2-clause-buffers : goal.returns-then-cores-lt2-clause-buffers
 returns-then-cores-lt2-clause-buffers c none =
-    never_buffers c.args.image.now c.args.cores c.size-size.ensures.limits (never_alone c.args.image.now c.args.cores c.if-cores-lt2.true)
+    never_buffers c.args.image.now c.args.cores c.bytes-bytes.ensures.limits (never_alone c.args.image.now c.args.cores c.if-cores-lt2.true)
 
 pub returns-then-cores-lt2-clause-never : goal.returns-then-cores-lt2-clause-never
 returns-then-cores-lt2-clause-never c none =
-    never_lines_on_fewer c.args.image.now c.args.cores c.size-size.ensures.limits (never_alone c.args.image.now c.args.cores c.if-cores-lt2.true)
+    never_lines_on_fewer c.args.image.now c.args.cores c.bytes-bytes.ensures.limits (never_alone c.args.image.now c.args.cores c.if-cores-lt2.true)

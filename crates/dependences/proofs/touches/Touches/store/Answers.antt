@@ -1,4 +1,4 @@
-use Rattle.std.proofs.Common.{◌≡◌, ◌/◌, ◌≤◌, length, arith}
+use Rattle.std.proofs.Common.{◌≤◌, arith}
 use Rattle.std.proofs.Math.Nat.{div-le_self}
 use Rattle.rv32_image.specs.Places.{place}
 use Rattle.rv32_image.proofs.Places.{places-few}

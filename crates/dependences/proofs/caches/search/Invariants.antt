@@ -4,7 +4,7 @@ use Rattle.rv32_exec.specs.Sequential.{first_epochs}
 use Rattle.dependences.specs.Conflict.{first_beside}
 use Rattle.dependences.specs.KeptLines.{AreLinesKept}
 use Rattle.dependences.specs.KeptTouches.{AreClear, AreTouchesKept}
-use Rattle.dependences.proofs.caches.conflict_past_end.Given as goal
+use Rattle.dependences.proofs.caches.search.Given as goal
 
 -- no epoch before this one conflicts
 abbrev pub invariant-loop-later : goal.invariant-loop-later
