@@ -1,4 +1,4 @@
-ghost use Rattle.std.specs.Prelude.{◌≡◌, ◌+◌, ◌<◌, ◌≤◌, ◌*◌, ◌/◌, ◌%◌, ◌^◌, ℕ, List, length, slice_index};
+ghost use Rattle.std.specs.Prelude.{◌≡◌, ◌+◌, ◌<◌, ◌≤◌, ◌*◌, ◌/◌, ◌%◌, ◌^◌, ℕ, List, true, false, length, slice_index};
 ghost use Rattle.rv32_exec.specs.Interpreter as spec;
 ghost use Rattle.rv32_image.specs.Image.{LoadedImage};
 ghost use Rattle.rv32_exec.specs.Hart.{with_register};
@@ -42,45 +42,50 @@ pub(crate) fn execute(instr: &Instr, word: usize, image: &Image, x: &mut Registe
     ensures leads { (done : ℕ) → spec.Leads image.now word (spec.hart x.old.x (4 * word) done) bytes.old (instruction_effect image.now (spec.hart x.old.x (4 * word) done) (λ r. slice_index x.old.x r) instr.now) result at.new x.new.x bytes.new }
     ensures lands { spec.Lands result }
 {
+    // The order of the arms is that of LLVM's code for them, and saves instructions of the host. BNE, the first branch, needs no jump to
+    // what all branches do that are taken, and ADDI, the last arm, none to what all writes do. LLVM aligns the code after an arm's test:
+    // in this order there is nothing to fill up before that of SB, LBU, LW and SW, nor before the write of ADDI. `bench/seq/run` tells
+    // what another order costs.
     match *instr {
         Instr::Lui { rd, imm } => write(x, rd, imm),
-        Instr::Auipc { rd, imm } => write(x, rd, address(x, word).wrapping_add(imm)),
+        // Without this exclusive or LLVM would have one addition for this and ADDI, to which one of the two has to jump.
+        Instr::Auipc { rd, imm } => write(x, rd, exclusive_or_x0(x, address(x, word).wrapping_add(imm))),
         Instr::Jal { rd, offset } => jump(x, word, rd, offset),
         Instr::Jalr { rd, rs1, imm } => jump_register(x, word, rd, x.plus(rs1, imm) / 2 * 2),
-        Instr::Beq { rs1, rs2, offset } => branch(x, x.get(rs1) == x.get(rs2), offset),
         Instr::Bne { rs1, rs2, offset } => branch(x, x.get(rs1) != x.get(rs2), offset),
+        Instr::Beq { rs1, rs2, offset } => branch(x, x.get(rs1) == x.get(rs2), offset),
         Instr::Blt { rs1, rs2, offset } => branch(x, x.is_less_signed(rs1, rs2), offset),
         Instr::Bge { rs1, rs2, offset } => branch(x, !x.is_less_signed(rs1, rs2), offset),
         Instr::Bltu { rs1, rs2, offset } => branch(x, x.is_less(rs1, rs2), offset),
         Instr::Bgeu { rs1, rs2, offset } => branch(x, !x.is_less(rs1, rs2), offset),
-        Instr::Lb { rd, rs1, imm } => load(image, bytes, at, x, x.plus(rs1, imm), 1, true, rd),
-        Instr::Lh { rd, rs1, imm } => load(image, bytes, at, x, x.plus(rs1, imm), 2, true, rd),
-        Instr::Lw { rd, rs1, imm } => load(image, bytes, at, x, x.plus(rs1, imm), 4, false, rd),
-        Instr::Lbu { rd, rs1, imm } => load(image, bytes, at, x, x.plus(rs1, imm), 1, false, rd),
-        Instr::Lhu { rd, rs1, imm } => load(image, bytes, at, x, x.plus(rs1, imm), 2, false, rd),
+        Instr::Lb { rd, rs1, imm } => load(image, bytes, at, x, x.plus(rs1, imm), signed(1, rd)),
         Instr::Sb { rs1, rs2, imm } => store(image, bytes, at, x.plus(rs1, imm), 1, x.get(rs2)),
-        Instr::Sh { rs1, rs2, imm } => store(image, bytes, at, x.plus(rs1, imm), 2, x.get(rs2)),
-        Instr::Sw { rs1, rs2, imm } => store(image, bytes, at, x.plus(rs1, imm), 4, x.get(rs2)),
-        Instr::Addi { rd, rs1, imm } => write(x, rd, x.plus(rs1, imm)),
-        Instr::Slti { rd, rs1, imm } => write(x, rd, u32::from(x.get(rs1).cast_signed() < imm.cast_signed())),
-        Instr::Sltiu { rd, rs1, imm } => write(x, rd, u32::from(x.get(rs1) < imm)),
+        Instr::Lbu { rd, rs1, imm } => load(image, bytes, at, x, x.plus(rs1, imm), unsigned(1, rd)),
         Instr::Xori { rd, rs1, imm } => write(x, rd, x.get(rs1) ^ imm),
         Instr::Ori { rd, rs1, imm } => write(x, rd, x.get(rs1) | imm),
         Instr::Andi { rd, rs1, imm } => write(x, rd, x.get(rs1) & imm),
+        Instr::Add { rd, rs1, rs2 } => write(x, rd, x.get(rs1).wrapping_add(x.get(rs2))),
+        Instr::Lw { rd, rs1, imm } => load(image, bytes, at, x, x.plus(rs1, imm), unsigned(4, rd)),
+        Instr::Sub { rd, rs1, rs2 } => write(x, rd, x.get(rs1).wrapping_sub(x.get(rs2))),
+        Instr::Xor { rd, rs1, rs2 } => write(x, rd, x.get(rs1) ^ x.get(rs2)),
+        Instr::Or { rd, rs1, rs2 } => write(x, rd, x.get(rs1) | x.get(rs2)),
+        Instr::And { rd, rs1, rs2 } => write(x, rd, x.get(rs1) & x.get(rs2)),
+        Instr::Sw { rs1, rs2, imm } => store(image, bytes, at, x.plus(rs1, imm), 4, x.get(rs2)),
+        Instr::Lh { rd, rs1, imm } => load(image, bytes, at, x, x.plus(rs1, imm), signed(2, rd)),
+        Instr::Lhu { rd, rs1, imm } => load(image, bytes, at, x, x.plus(rs1, imm), unsigned(2, rd)),
+        Instr::Sh { rs1, rs2, imm } => store(image, bytes, at, x.plus(rs1, imm), 2, x.get(rs2)),
+        Instr::Slti { rd, rs1, imm } => write(x, rd, u32::from(x.get(rs1).cast_signed() < imm.cast_signed())),
+        Instr::Sltiu { rd, rs1, imm } => write(x, rd, u32::from(x.get(rs1) < imm)),
+        Instr::Slt { rd, rs1, rs2 } => write(x, rd, u32::from(x.is_less_signed(rs1, rs2))),
+        Instr::Sltu { rd, rs1, rs2 } => write(x, rd, u32::from(x.is_less(rs1, rs2))),
         Instr::Slli { rd, rs1, amount } => write(x, rd, x.get(rs1).wrapping_shl(u32::from(amount.bits()))),
         Instr::Srli { rd, rs1, amount } => write(x, rd, x.get(rs1).wrapping_shr(u32::from(amount.bits()))),
         Instr::Srai { rd, rs1, amount } => write(x, rd, x.shifted_signed(rs1, u32::from(amount.bits()))),
-        Instr::Add { rd, rs1, rs2 } => write(x, rd, x.get(rs1).wrapping_add(x.get(rs2))),
-        Instr::Sub { rd, rs1, rs2 } => write(x, rd, x.get(rs1).wrapping_sub(x.get(rs2))),
         Instr::Sll { rd, rs1, rs2 } => write(x, rd, x.get(rs1).wrapping_shl(x.get(rs2))),
-        Instr::Slt { rd, rs1, rs2 } => write(x, rd, u32::from(x.is_less_signed(rs1, rs2))),
-        Instr::Sltu { rd, rs1, rs2 } => write(x, rd, u32::from(x.is_less(rs1, rs2))),
-        Instr::Xor { rd, rs1, rs2 } => write(x, rd, x.get(rs1) ^ x.get(rs2)),
         Instr::Srl { rd, rs1, rs2 } => write(x, rd, x.get(rs1).wrapping_shr(x.get(rs2))),
         Instr::Sra { rd, rs1, rs2 } => write(x, rd, x.shifted_signed(rs1, x.get(rs2))),
-        Instr::Or { rd, rs1, rs2 } => write(x, rd, x.get(rs1) | x.get(rs2)),
-        Instr::And { rd, rs1, rs2 } => write(x, rd, x.get(rs1) & x.get(rs2)),
         Instr::Fence => Way::Following,
+        Instr::Addi { rd, rs1, imm } => write(x, rd, x.plus(rs1, imm)),
     }
 }
 
@@ -168,7 +173,39 @@ fn jump_register(x: &mut Registers, word: usize, rd: Destination, target: u32) -
     Way::To((target / 4) as usize)
 }
 
-/// Loads the number of this width at the address into the register, unless it faults or is past these bytes; `at` is then that load.
+/// What a load reads, and where that goes: so many bytes, with their sign or filled with 0, into a register.
+#[derive(Clone, Copy)]
+struct Loading {
+    width: u32,
+    signed: bool,
+    rd: Destination,
+}
+
+/// So many bytes with their sign.
+#[inline(always)]
+fn signed(width: u32, rd: Destination) -> Loading
+    ensures { result ≡ record { width = width; signed = true; rd = rd } }
+{
+    Loading {
+        width,
+        signed: true,
+        rd,
+    }
+}
+
+/// So many bytes, filled with 0.
+#[inline(always)]
+fn unsigned(width: u32, rd: Destination) -> Loading
+    ensures { result ≡ record { width = width; signed = false; rd = rd } }
+{
+    Loading {
+        width,
+        signed: false,
+        rd,
+    }
+}
+
+/// Loads the number at the address into the register, unless it faults or is past these bytes; `at` is then that load.
 #[inline(always)]
 fn load(
     image: &Image,
@@ -176,16 +213,15 @@ fn load(
     at: &mut Stop,
     x: &mut Registers,
     addr: u32,
-    width: u32,
-    signed: bool,
-    rd: Destination,
+    loading: Loading,
 ) -> Way
-    requires width { IsWidth width }
+    requires width { IsWidth loading.width }
     requires size { length bytes.now ≤ image.now.size }
     requires in_words { length bytes.now % 4 ≡ 0 }
-    ensures leads { (word pc done : ℕ) → spec.Leads image.now word (spec.hart x.old.x pc done) bytes.now (load_effect image.now (spec.hart x.old.x pc done) width signed rd addr) result at.new x.new.x bytes.now }
+    ensures leads { (word pc done : ℕ) → spec.Leads image.now word (spec.hart x.old.x pc done) bytes.now (load_effect image.now (spec.hart x.old.x pc done) loading.width loading.signed loading.rd addr) result at.new x.new.x bytes.now }
     ensures lands { spec.Lands result }
 {
+    let Loading { width, signed, rd } = loading;
     let place = addr as usize;
     if place % width as usize != 0 {
         return Way::Fault(MISALIGNED_DATA);
