@@ -37,22 +37,22 @@ sum_after_more : (store load : ℕ) (sum : Option PairSum) (xs : List Dependence
 sum_after_more store load sum [] x = refl
 sum_after_more store load sum (y ∷ ys) x = sum_after_more store load (cond (joins store load y) (sum_with sum y) sum) ys x
 
-more_by : (store load : ℕ) (before : List Dependence) (x : Dependence) (old new : Option PairSum) (sum : PairSum) (b : Bool) → joins store load x ≡ b
-    → old ≡ pair_sum store load before → Some sum ≡ sum_with (pair_sum x.store_pc x.load_pc before) x
-    → cond b (Some sum) old ≡ cond b (sum_with (pair_sum store load before) x) (pair_sum store load before)
-more_by store load before x old new sum true is was now =
+more_by : (store load : ℕ) (before : List Dependence) (x : Dependence) (old was : Option PairSum) (b : Bool) → joins store load x ≡ b
+    → old ≡ pair_sum store load before → was ≡ pair_sum x.store_pc x.load_pc before
+    → cond b (sum_with was x) old ≡ cond b (sum_with (pair_sum store load before) x) (pair_sum store load before)
+more_by store load before x old was true is before_it now =
     let parts = and_parts (x.store_pc == store) (x.load_pc == load) is in
     let first : x.store_pc ≡ store = eqb-true x.store_pc store parts.0 in
     let second : x.load_pc ≡ load = eqb-true x.load_pc load parts.1 in
-    now ∙ (ap (λ s. sum_with (pair_sum s x.load_pc before) x) first ∙ ap (λ l. sum_with (pair_sum store l before) x) second)
-more_by store load before x old new sum false is was now = was
+    ap (λ (o : Option PairSum). sum_with o x) (now ∙ (ap (λ s. pair_sum s x.load_pc before) first ∙ ap (λ l. pair_sum store l before) second))
+more_by store load before x old was false is before_it now = before_it
 
-pub sums_more : (store load : ℕ) (before after : List Dependence) (x : Dependence) (old new : Option PairSum) (sum : PairSum) → after ≡ before ++ x ∷ []
-    → new ≡ cond (is_eq (by_pcs (x.store_pc, x.load_pc) (store, load))) (Some sum) old
-    → old ≡ pair_sum store load before → Some sum ≡ sum_with (pair_sum x.store_pc x.load_pc before) x → new ≡ pair_sum store load after
-sums_more store load before after x old new sum all updated was now =
-    updated ∙ (ap (λ b. cond b (Some sum) old) (at_pcs store load x)
-    ∙ (more_by store load before x old new sum (joins store load x) refl was now
+pub sums_more : (store load : ℕ) (before after : List Dependence) (x : Dependence) (old new was : Option PairSum) → after ≡ before ++ x ∷ []
+    → new ≡ cond (is_eq (by_pcs (x.store_pc, x.load_pc) (store, load))) (sum_with was x) old
+    → old ≡ pair_sum store load before → was ≡ pair_sum x.store_pc x.load_pc before → new ≡ pair_sum store load after
+sums_more store load before after x old new was all updated before_it now =
+    updated ∙ (ap (λ b. cond b (sum_with was x) old) (at_pcs store load x)
+    ∙ (more_by store load before x old was (joins store load x) refl before_it now
     ∙ (sym (sum_after_more store load None before x) ∙ ap (pair_sum store load) (sym all))))
 
 -- ---- how many

@@ -1,4 +1,4 @@
-ghost use Rattle.std.specs.Prelude.{◌≡◌, ℕ, ◌+◌, ◌<◌, ◌≤◌, ◌^◌, IfOk, length, slice_index};
+ghost use Rattle.std.specs.Prelude.{◌≡◌, ℕ, ◌+◌, ◌/◌, ◌<◌, ◌≤◌, ◌^◌, IfOk, length, slice_index};
 ghost use Rattle.rv32_image.specs.Image.{IsImage};
 ghost use Rattle.spec_history.specs.Conflict.{line_number, line_count};
 ghost use Rattle.dependences.specs.KeptLines as spec;
@@ -14,7 +14,22 @@ pub(crate) fn line_of(image: &Image, addr: u32) -> u32
     ensures line { result ≡ line_number image.now addr }
     ensures inside { addr < image.now.size → result < line_count image.now }
 {
-    image.place(addr) / image.machine().line_length
+    line_at(image.place(addr), image.machine().line_length)
+}
+
+/// The number of the line of this length in which a place lies.
+#[inline]
+fn line_at(place: u32, length: u32) -> u32
+    requires { 1 ≤ length }
+    ensures { result ≡ place / length }
+{
+    // A machine has lines of one of these lengths. By a number that it knows LLVM divides by a shift.
+    match length {
+        16 => place / 16,
+        32 => place / 32,
+        64 => place / 64,
+        _ => place / length,
+    }
 }
 
 /// Of each line the last epoch that did something in it, and 1, and the last before that one. 0 for none.

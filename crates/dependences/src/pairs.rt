@@ -1,4 +1,4 @@
-ghost use Rattle.std.specs.Prelude.{◌≡◌, ℕ, ◌+◌, ◌<◌, ◌^◌, IfOk, OnOk, Some, cond};
+ghost use Rattle.std.specs.Prelude.{◌≡◌, ℕ, ◌+◌, ◌<◌, ◌^◌, IfOk, OnOk, Some, None, true, false, cond};
 ghost use Rattle.std.specs.Ordering.{is_eq};
 ghost use Rattle.std.specs.BTreeMap.{get};
 ghost use Rattle.dependences.specs.declared.pairs.PairSum.{PairSum};
@@ -70,21 +70,35 @@ pub fn sums_by_pair(
 {
     let mut sums = BTreeMap::new(alloc);
     for one in found {
-        let pair = (one.store_pc, one.load_pc);
-        let sum = sum_with(sums.get(&pair).copied(), one);
-        put(&mut sums, pair, sum)?;
+        note(&mut sums, one)?;
     }
     Ok(sums)
 }
 
-/// With one more, or of that one alone.
-fn sum_with(sum: Option<PairSum>, one: &Dependence) -> PairSum
-    requires { (s : PairSum) → sum ≡ Some s → s.times + 1 < 2 ^ 64 }
-    ensures { Some result ≡ spec.sum_with sum one.now }
+/// Adds one to the sum of its pair, or puts that of this one alone.
+fn note(sums: &mut BTreeMap<(u32, u32), PairSum>, one: &Dependence) -> Result<(), NoMemory>
+    requires { (s : PairSum) → get spec.by_pcs sums.old (one.now.store_pc, one.now.load_pc) ≡ Some s → s.times + 1 < 2 ^ 64 }
+    ensures { OnOk result (spec.IsNoted sums.old sums.new one.now) }
 {
-    match sum {
-        Some(sum) => sum.more(one),
-        None => PairSum::of(one),
+    if add(sums, one) {
+        return Ok(());
+    }
+    put(sums, (one.store_pc, one.load_pc), PairSum::of(one))
+}
+
+/// Adds one to the sum of its pair. Answers whether it has one.
+fn add(sums: &mut BTreeMap<(u32, u32), PairSum>, one: &Dependence) -> bool
+    requires { (s : PairSum) → get spec.by_pcs sums.old (one.now.store_pc, one.now.load_pc) ≡ Some s → s.times + 1 < 2 ^ 64 }
+    ensures added { result ≡ true → spec.IsNoted sums.old sums.new one.now }
+    ensures none { result ≡ false → get spec.by_pcs sums.old (one.now.store_pc, one.now.load_pc) ≡ None }
+    ensures same { result ≡ false → (store load : ℕ) → get spec.by_pcs sums.new (store, load) ≡ get spec.by_pcs sums.old (store, load) }
+{
+    match sums.get_mut(&(one.store_pc, one.load_pc)) {
+        Some(sum) => {
+            *sum = sum.more(one);
+            true
+        }
+        None => false,
     }
 }
 

@@ -1,19 +1,18 @@
-use Rattle.std.proofs.Common.{◌+◌, Option, get_or, length-take, take, refl, sym, ap, ◌∙◌, arith}
+use Rattle.std.proofs.Common.{◌+◌, get_or, length-take, take, refl, sym, ap, ◌∙◌, arith}
 use Rattle.std.proofs.lemmas.List.{take_all, take_more}
 use Rattle.dependences.specs.declared.flow.Dependence.{Dependence}
-use Rattle.dependences.specs.declared.pairs.PairSum.{PairSum}
-use Rattle.dependences.specs.Pairs.{pair_sum, sum_with}
+use Rattle.dependences.specs.Pairs.{pair_sum}
 use Rattle.dependences.proofs.Joining.{sums_more, times_low}
 use Rattle.dependences.proofs.pairs.sums_by_pair.Goals as goal
 
 abbrev none : Dependence
 none = record { earlier = 0; stored = 0; store_pc = 0; later = 0; loaded = 0; load_pc = 0; byte = 0 }
 
-pub sum_with-sum-requires : goal.sum_with-sum-requires
-sum_with-sum-requires c s is =
+pub note-requires : goal.note-requires
+note-requires c s is =
     let x = get_or c.args.found.now c.loop-one.one-index none in
     let before = take c.loop-one.one-index c.args.found.now in
-    let low = times_low x.store_pc x.load_pc before s (sym (c.loop-one.invariant x.store_pc x.load_pc) ∙ (sym c.get.ensures.value ∙ (sym c.copied.ensures ∙ is))) in
+    let low = times_low x.store_pc x.load_pc before s (sym (c.loop-one.invariant x.store_pc x.load_pc) ∙ is) in
     let few = length-take c.loop-one.one-index c.args.found.now in omega (arith, low, few, c.loop-one-test.true)
 
 pub loop-one-init : goal.loop-one-init
@@ -23,9 +22,9 @@ pub loop-one-preserved : goal.loop-one-preserved
 loop-one-preserved c store load =
     let x = get_or c.args.found.now c.loop-one.one-index none in
     let before = take c.loop-one.one-index c.args.found.now in
-    sums_more store load before (take (c.loop-one.one-index + 1) c.args.found.now) x _ _ c.sum_with-sum.result
-    (take_more c.args.found.now c.loop-one.one-index none (omega (arith, c.loop-one-test.true, c.loop-one.auto.one-index-end))) (c.in_ok-put.ensures store load) (c.loop-one.invariant store load)
-    (c.sum_with-sum.ensures ∙ ap (λ (o : Option PairSum). sum_with o x) (c.copied.ensures ∙ (c.get.ensures.value ∙ c.loop-one.invariant x.store_pc x.load_pc)))
+    sums_more store load before (take (c.loop-one.one-index + 1) c.args.found.now) x _ _ _
+    (take_more c.args.found.now c.loop-one.one-index none (omega (arith, c.loop-one-test.true, c.loop-one.auto.one-index-end))) (c.in_ok-note.ensures store load)
+    (c.loop-one.invariant store load) (c.loop-one.invariant x.store_pc x.load_pc)
 
 pub returns : goal.returns
 returns c store load =
