@@ -26,7 +26,7 @@ use Rattle.dependences.proofs.Windows.{count_last, count_more, count_most}
 use Rattle.dependences.proofs.Meetings.{passing}
 use Rattle.dependences.proofs.Following.{all_loaded, all_stored, all_stored_early, hart_there, load_late, no_both, same_load, store_late}
 use Rattle.dependences.proofs.Outside.{seen_now}
-use Rattle.dependences.proofs.Lining.{among, here_more, last_low, last_now, last_still, none_from, some_from, writer_other}
+use Rattle.dependences.proofs.Lining.{among, last_low, last_now, last_still, none_from, some_from, writer_other}
 
 -- ---- counts of lines
 
@@ -143,25 +143,6 @@ read_other xs i r n within is other same =
     let one = slice_get-get_or xs i r within in
     let zeroed = slice_get-get_or xs i 0 within in
     let equal : get_or xs i r ≡ get_or xs i 0 = cc in other (is ∙ (equal ∙ same))
-
-pub stored_none : (image : LoadedImage) (t : Touched) (epoch first address : ℕ) → AreCounted t epoch first → AreStoredIn image t t epoch first address 0
-stored_none image t epoch first address counted = record {
-  two = refl;
-  long = refl;
-  here = λ i low. absurd (omega (arith, low));
-  others = λ l none. refl;
-  counted = counted;
-}
-
-pub stored_more : (image : LoadedImage) (old t new : Touched) (epoch first address i line : ℕ) → line ≡ line_number image (address + i)
-    → AreStoredIn image old t epoch first address i → IsStoredIn t new epoch first line → AreStoredIn image old new epoch first address (i + 1)
-stored_more image old t new epoch first address i line is are one = record {
-  two = one.two ∙ are.two;
-  long = one.long ∙ are.long;
-  here = here_more image new.stored t.stored epoch address i line is one.here one.others are.here;
-  others = λ l none. one.others l (subst (λ n. l ≢ n) (sym is) (none i (omega arith))) ∙ are.others l (λ j low. none j (omega (arith, low)));
-  counted = one.counted;
-}
 
 -- lines that are touched change no count
 pub counted_on : (image : LoadedImage) (old new : Touched) (epoch first address width : ℕ) → AreLinesNoted image old.two new.two epoch address width → new.stored ≡ old.stored

@@ -32,6 +32,7 @@ pub mod Noting
 pub mod Lining
 pub mod Buffering
 pub mod Caching
+pub mod Words
 -- What no conflict says of histories.
 pub mod Nevers
 pub mod Distances

@@ -16,7 +16,7 @@ use Rattle.spec_history.specs.Conflict.{line_number}
 use Rattle.spec_history.proofs.OneEntry.Accesses.{load_counts}
 use Rattle.dependences.specs.Paths.{ReadsOutside, Stores}
 use Rattle.dependences.specs.Conflict.{IsInOrder, LineConflictInOrder, first_beside, run_memory}
-use Rattle.dependences.specs.KeptLines.{AreLines, AreLinesKept, AreLinesNoted, AreStored, IsLastOf, IsLineNoted, LastTwo, Lines, MeetsLine, MeetsNone, StoresInLine, other_before}
+use Rattle.dependences.specs.KeptLines.{AreLines, AreLinesKept, AreStored, IsLastOf, LastTwo, Lines, MeetsLine, MeetsNone, StoresInLine, other_before}
 use Rattle.dependences.proofs.Paths.{IsAt, at_start, covered, either, load_after, neither, past_load, past_store, path_stores, reads_there, start_after, store_after}
 use Rattle.dependences.proofs.Following.{all_loaded, all_stored, unmarked}
 use Rattle.dependences.proofs.Outside.{OnPath, read_by_load, read_by_store, seen_now}
@@ -276,36 +276,3 @@ module _ (image : LoadedImage) (cores epoch : ℕ) (memory now : List ℕ) (s : 
 
   pub lines_path : OnPath image epoch memory now h
   lines_path = record { own = x.stored; at = x.at; is = x.is }
-
--- ---- what is noted
-
-pub noted_none : (image : LoadedImage) (s : LastTwo) (epoch address : ℕ) → AreLinesNoted image s s epoch address 0
-noted_none image s epoch address = record {
-  last_long = refl;
-  before_long = refl;
-  here = λ i low. absurd (omega (arith, low));
-  others = λ l none. refl;
-  other = λ l. refl;
-}
-
--- a list with one more noted at this line
-pub here_more : (image : LoadedImage) (new : List ℕ) (old : List ℕ) (epoch address i line : ℕ) → line ≡ line_number image (address + i) → slice_index new line ≡ epoch + 1
-    → ((l : ℕ) → l ≢ line → slice_index new l ≡ slice_index old l) → ((j : ℕ) → j < i → slice_index old (line_number image (address + j)) ≡ epoch + 1)
-    → (j : ℕ) → j < i + 1 → slice_index new (line_number image (address + j)) ≡ epoch + 1
-here_more image new old epoch address i line is here others before j low = elim (cases_eq (line_number image (address + j)) line) [
-  | inl e ↦ ap (slice_index new) e ∙ here
-  | inr other ↦ elim (cases_eq j i) [
-    | inl e ↦ absurd (other (ap (λ n. line_number image (address + n)) e ∙ sym is))
-    | inr less ↦ others (line_number image (address + j)) other ∙ before j (omega (arith, low, less))
-  ]
-]
-
-pub noted_more : (image : LoadedImage) (old s new : LastTwo) (epoch address i line : ℕ) → line ≡ line_number image (address + i) → AreLinesNoted image old s epoch address i
-    → IsLineNoted s new epoch line → AreLinesNoted image old new epoch address (i + 1)
-noted_more image old s new epoch address i line is are one = record {
-  last_long = one.last_long ∙ are.last_long;
-  before_long = one.before_long ∙ are.before_long;
-  here = here_more image new.last s.last epoch address i line is one.here one.others are.here;
-  others = λ l none. one.others l (subst (λ n. l ≢ n) (sym is) (none i (omega arith))) ∙ are.others l (λ j low. none j (omega (arith, low)));
-  other = λ l. one.other l ∙ are.other l;
-}

@@ -1,4 +1,5 @@
-ghost use Rattle.std.specs.Prelude.{◌≡◌, ℕ, ◌+◌, ◌/◌, ◌<◌, ◌≤◌, ◌^◌, IfOk, length, slice_index};
+ghost use Rattle.std.specs.Prelude.{◌≡◌, ℕ, ◌+◌, ◌/◌, ◌%◌, ◌<◌, ◌≤◌, ◌^◌, IfOk, length, slice_index};
+ghost use Rattle.memory_bytes.specs.Bytes.{IsWidth};
 ghost use Rattle.rv32_image.specs.Image.{IsImage};
 ghost use Rattle.spec_history.specs.Conflict.{line_number, line_count};
 ghost use Rattle.dependences.specs.KeptLines as spec;
@@ -74,18 +75,18 @@ impl LastTwo {
         }
     }
 
-    /// Notes that this epoch does so in the lines of these bytes.
-    pub(crate) fn note_lines(&mut self, image: &Image, epoch: u32, addr: u32, width: u32)
+    /// Notes that this epoch does so in the line of these bytes, which an aligned access has.
+    pub(crate) fn note_line(&mut self, image: &Image, epoch: u32, addr: u32, width: u32)
         requires limits { IsImage image.now }
         requires epoch { epoch < 2 ^ 16 }
+        requires wide { IsWidth width }
+        requires aligned { addr % width ≡ 0 }
         requires within { addr + width ≤ image.now.size }
         requires lines { spec.AreLines image.now self.old }
         ensures { spec.AreLinesNoted image.now self.old self.new epoch addr width }
     {
-        for i in 0..width {
-            let line = line_of(image, addr + i);
-            self.note(epoch, line);
-        }
+        let line = line_of(image, addr);
+        self.note(epoch, line);
     }
 
     /// Notes that this epoch does so in this line.

@@ -1,4 +1,5 @@
-ghost use Rattle.std.specs.Prelude.{◌≡◌, ℕ, ◌+◌, ◌<◌, ◌≤◌, ◌^◌, IfOk, true, false, length};
+ghost use Rattle.std.specs.Prelude.{◌≡◌, ℕ, ◌+◌, ◌%◌, ◌<◌, ◌≤◌, ◌^◌, IfOk, true, false, length};
+ghost use Rattle.memory_bytes.specs.Bytes.{IsWidth};
 ghost use Rattle.rv32_image.specs.Image.{IsImage};
 ghost use Rattle.dependences.specs.KeptLines as spec;
 
@@ -39,17 +40,20 @@ impl Lines {
     pub(crate) fn meets(&self, image: &Image, epoch: u32, first: u32, addr: u32, width: u32) -> bool
         requires limits { IsImage image.now }
         requires epoch { epoch < 2 ^ 16 }
+        requires wide { IsWidth width }
+        requires aligned { addr % width ≡ 0 }
         requires within { addr + width ≤ image.now.size }
         requires own { length self.now.own ≡ image.now.size }
         requires lines { spec.AreLines image.now self.now.two }
         ensures found { result ≡ true → spec.MeetsLine image.now self.now epoch first addr width }
         ensures none { result ≡ false → spec.MeetsLine image.now self.now epoch first addr width → ⊥ }
     {
+        let line = line_of(image, addr);
+        if self.two.other_before(epoch, line) <= first {
+            return false;
+        }
         for i in 0..width {
-            let line = line_of(image, addr + i);
-            if self.own[(addr + i) as usize] != epoch + 1
-                && self.two.other_before(epoch, line) > first
-            {
+            if self.own[(addr + i) as usize] != epoch + 1 {
                 return true;
             }
         }
@@ -60,12 +64,14 @@ impl Lines {
     pub(crate) fn store(&mut self, image: &Image, epoch: u32, addr: u32, width: u32)
         requires limits { IsImage image.now }
         requires epoch { epoch < 2 ^ 16 }
+        requires wide { IsWidth width }
+        requires aligned { addr % width ≡ 0 }
         requires within { addr + width ≤ image.now.size }
         requires own { length self.old.own ≡ image.now.size }
         requires lines { spec.AreLines image.now self.old.two }
         ensures { spec.AreStored image.now self.old self.new epoch addr width }
     {
         mark(self.own.as_mut_slice(), addr, width, epoch + 1);
-        self.two.note_lines(image, epoch, addr, width);
+        self.two.note_line(image, epoch, addr, width);
     }
 }

@@ -1,4 +1,5 @@
-ghost use Rattle.std.specs.Prelude.{◌≡◌, false, ℕ, ◌+◌, ◌<◌, ◌≤◌, ◌^◌, IfOk, length, slice_index};
+ghost use Rattle.std.specs.Prelude.{◌≡◌, false, ℕ, ◌+◌, ◌%◌, ◌<◌, ◌≤◌, ◌^◌, IfOk, length, slice_index};
+ghost use Rattle.memory_bytes.specs.Bytes.{IsWidth};
 ghost use Rattle.rv32_image.specs.Image.{IsImage};
 ghost use Rattle.spec_history.specs.Conflict.{line_count};
 ghost use Rattle.dependences.specs.KeptLines.{AreLines, AreLinesNoted};
@@ -56,6 +57,8 @@ impl Touches {
     pub(crate) fn touch(&mut self, image: &Image, epoch: u32, addr: u32, width: u32)
         requires limits { IsImage image.now }
         requires epoch { epoch < 2 ^ 16 }
+        requires wide { IsWidth width }
+        requires aligned { addr % width ≡ 0 }
         requires within { addr + width ≤ image.now.size }
         requires lines { AreLines image.now self.old.two }
         ensures two { AreLinesNoted image.now self.old.two self.new.two epoch addr width }
@@ -63,23 +66,23 @@ impl Touches {
         ensures count { self.new.count ≡ self.old.count }
         ensures shared { self.new.shared ≡ self.old.shared }
     {
-        self.two.note_lines(image, epoch, addr, width);
+        self.two.note_line(image, epoch, addr, width);
     }
 
     /// Notes that this epoch stores these bytes.
     pub(crate) fn store(&mut self, image: &Image, epoch: u32, first: u32, addr: u32, width: u32)
         requires limits { IsImage image.now }
         requires epoch { epoch < 2 ^ 16 }
+        requires wide { IsWidth width }
+        requires aligned { addr % width ≡ 0 }
         requires within { addr + width ≤ image.now.size }
         requires lines { AreLines image.now self.old.two }
         requires stored { length self.old.stored ≡ line_count image.now }
         requires counted { spec.AreCounted self.old epoch first }
         ensures { spec.AreStoredIn image.now self.old self.new epoch first addr width }
     {
-        for i in 0..width {
-            let line = line_of(image, addr + i);
-            self.store_in(epoch, first, line);
-        }
+        let line = line_of(image, addr);
+        self.store_in(epoch, first, line);
     }
 
     /// Notes that this epoch stores in this line.

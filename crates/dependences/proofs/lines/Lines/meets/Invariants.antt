@@ -1,6 +1,6 @@
-use Rattle.dependences.specs.KeptLines.{MeetsLine}
+use Rattle.std.proofs.Common.{◌≡◌, ℕ, ◌+◌, ◌<◌, slice_index}
 use Rattle.dependences.proofs.lines.Lines.meets.Given as goal
 
--- none of the bytes so far
+-- the bytes so far are the epoch's own
 abbrev pub invariant-loop-i : goal.invariant-loop-i
-invariant-loop-i l = MeetsLine l.image l.self l.epoch l.first l.addr l.i → ⊥
+invariant-loop-i l = (k : ℕ) → k < l.i → slice_index l.self.own (l.addr + k) ≡ l.epoch + 1
