@@ -1,2 +1,3 @@
 pub mod Answering
 mod Joining
+pub mod Known

@@ -17,6 +17,7 @@ use Rattle.trace_commands.specs.Stores.{store_named}
 use Rattle.depends.specs.declared.least.Grain.TheVariants.{Lines, Bytes}
 use Rattle.depends.specs.declared.line.Line.{Line}
 use Rattle.depends.specs.Line.{IsLine, line_text}
+use Rattle.depends.specs.Never.{IsKnown}
 use Rattle.depends.specs.Rows.{AreRowsOf}
 use Rattle.all_schedules.specs.Stores.{on_store}
 use Rattle.depends.specs.Text.{row_text}
@@ -31,6 +32,11 @@ pub record AreRowLines (found : List Dependence) (lengths : List ℕ) (text : Li
 abbrev pub IsLineOf : LoadedImage → Store → ℕ → ℕ → Line → Type 0
 IsLineOf image (Caches asked) cores room line = IsLine cache.Starts cache.Makes caches.store_view caches.waits image Lines cores room line
 IsLineOf image Plain cores room line = IsLine plain.Starts plain.Makes plain.store_view (λ _. never_waits) image Bytes cores room line
+
+-- what the run in order shows is so of the loop on the machine of this store
+abbrev pub IsKnownOn : LoadedImage → Store → ℕ → Option ℕ → Type 0
+IsKnownOn image (Caches asked) ran nearest = IsKnown image Lines ran nearest
+IsKnownOn image Plain ran nearest = IsKnown image Bytes ran nearest
 
 -- it is told of the store that this word names
 abbrev pub AddStore : LoadedImage → ℕ → ℕ → List ℕ → Option Store → List ℕ → List ℕ → Type 0

@@ -1,8 +1,13 @@
 //! From how many cores on epochs conflict.
 ghost use Rattle.std.specs.Prelude.{◌≡◌, ◌≤◌, IfOk};
+ghost use Rattle.rv32_image.specs.Image.{IsImage};
+ghost use Rattle.dependences.specs.Kept.{AreAll};
+ghost use Rattle.dependences.specs.Nearest.{IsNearest};
 ghost use Rattle.depends.specs.Never as spec;
 
-use dependences::{CacheConflict, conflict_over_caches, conflicts_over_bytes};
+use dependences::{
+    CacheConflict, conflict_over_caches, conflicts_over_bytes, least_conflict_over_bytes,
+};
 use rv32_exec::Image;
 use std::alloc::{AllocError, Global};
 
@@ -23,10 +28,43 @@ pub struct Found {
 }
 
 /// Two epochs that conflict over a store of this grain on the fewest cores, up to these, which are at most 16. None: on none of them any do, and no
-/// schedule has a violation.
+/// schedule has a violation. So many epochs run in order, and the nearest that depend on each other over bytes are so far apart.
 ///
 /// `AllocError`: memory ran out.
 pub fn least_conflict(
+    alloc: Global,
+    image: &Image,
+    grain: Grain,
+    cores: u32,
+    ran: u32,
+    nearest: Option<u32>,
+) -> Result<Option<Found>, AllocError>
+    requires few { cores ≤ 16 }
+    requires known { spec.IsKnown image.now grain ran nearest }
+    ensures { IfOk result (spec.IsLeast image.now grain cores) }
+{
+    let all = ran == image.epochs();
+    match grain {
+        Grain::Bytes if all => Ok(least_near(image, cores, nearest)),
+        _ => least_by_halves(alloc, image, grain, cores),
+    }
+}
+
+/// The same over bytes of a loop of which all epochs run in order.
+fn least_near(image: &Image, cores: u32, nearest: Option<u32>) -> Option<Found>
+    requires limits { IsImage image.now }
+    requires all { AreAll image.now image.now.epochs }
+    requires nearest { IsNearest image.now nearest }
+    ensures { spec.IsLeast image.now Grain.Bytes cores result }
+{
+    match least_conflict_over_bytes(image, nearest, cores) {
+        Some(cores) => Some(Found { cores, later: None }),
+        None => None,
+    }
+}
+
+/// The same by a search on more and fewer cores.
+fn least_by_halves(
     alloc: Global,
     image: &Image,
     grain: Grain,

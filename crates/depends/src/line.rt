@@ -2,6 +2,7 @@
 ghost use Rattle.std.specs.Prelude.{◌≡◌, ◌++◌, IfOk, OnOk};
 ghost use Rattle.violations.specs.Rule.{IsCoreCount};
 ghost use Rattle.depends.specs.Line as spec;
+ghost use Rattle.depends.specs.Never.{IsKnown};
 
 use crate::ahead::run_ahead;
 use crate::least::{Found, Grain, least_conflict};
@@ -37,6 +38,8 @@ pub struct Known<'a> {
     pub found: &'a [Dependence],
     /// How many epochs it has.
     pub epochs: u32,
+    /// The least distance at which they depend on each other over bytes, if any do.
+    pub nearest: Option<u32>,
 }
 
 /// What is told of a store that watches so, and up to so many cores. The cores are at least 1.
@@ -51,9 +54,10 @@ pub fn line_over<S: EpochStore>(
     known: Known<'_>,
 ) -> Result<Line, AllocError>
     requires cores { IsCoreCount image.now cores }
+    requires known { IsKnown image.now grain known.epochs known.nearest }
     ensures { IfOk result (spec.IsLine S.starts S.makes S.view S.waits image.now grain cores room) }
 {
-    match least_conflict(alloc, image, grain, cores)? {
+    match least_conflict(alloc, image, grain, cores, known.epochs, known.nearest)? {
         Some(least) => {
             let (from, to) = laters(image, known, least);
             line_from::<S>(alloc, image, least.cores, room, from, to)

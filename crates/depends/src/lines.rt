@@ -3,6 +3,8 @@ ghost use Rattle.std.specs.Prelude.{◌≡◌, IfOk, OnOk, map};
 ghost use Rattle.violations.specs.Rule.{IsCoreCount};
 ghost use Rattle.trace_commands.specs.Stores.{store_named};
 ghost use Rattle.all_schedules.specs.Stores.{RunsOn, RunsOnAll};
+ghost use Rattle.dependences.specs.Kept.{AreAll};
+ghost use Rattle.dependences.specs.Nearest.{IsNearest};
 ghost use Rattle.depends.specs.Lines as spec;
 
 use crate::least::Grain;
@@ -10,7 +12,7 @@ use crate::line::{Known, Line, line_over, push_line};
 use crate::rows::rows_of;
 use crate::text::push_rows;
 use all_schedules::{Room, store_on};
-use dependences::{Dependence, dependences_in_order, lengths_in_order};
+use dependences::{Dependence, shown_in_order};
 use rv32_exec::Image;
 use spec_bus::CachedBus;
 use std::alloc::{AllocError, Global};
@@ -31,17 +33,15 @@ pub fn print_lines<S: AsStr>(
     requires stores { RunsOnAll image.now cores (map S.text stores.now) }
     ensures { IfOk result (λ text. spec.AreLines image.now cores room (map S.text stores.now) text.items) }
 {
-    let Ok(found) = dependences_in_order(alloc, image) else {
-        return Err(AllocError);
-    };
-    let Ok(lengths) = lengths_in_order(alloc, image) else {
+    let Ok(ran) = shown_in_order(alloc, image) else {
         return Err(AllocError);
     };
     let known = Known {
-        found: found.as_slice(),
-        epochs: lengths.len().min(image.epochs() as usize) as u32,
+        found: ran.found.as_slice(),
+        epochs: ran.lengths.len().min(image.epochs() as usize) as u32,
+        nearest: ran.nearest,
     };
-    let mut text = print_rows(alloc, found.as_slice(), lengths.as_slice())?;
+    let mut text = print_rows(alloc, ran.found.as_slice(), ran.lengths.as_slice())?;
     push_stores(alloc, &mut text, image, cores, stores, room, known)?;
     Ok(text)
 }
@@ -67,6 +67,8 @@ fn push_stores<S: AsStr>(
     known: Known<'_>,
 ) -> Result<(), AllocError>
     requires stores { RunsOnAll image.now cores (map S.text words.now) }
+    requires all { AreAll image.now known.epochs }
+    requires nearest { IsNearest image.now known.nearest }
     ensures { OnOk result (spec.AddStores image.now cores room (map S.text words.now) text.old.items text.new.items) }
 {
     for word in words {
@@ -86,6 +88,8 @@ fn push_store(
     known: Known<'_>,
 ) -> Result<(), AllocError>
     requires store { RunsOn image.now cores (store_named word.now) }
+    requires all { AreAll image.now known.epochs }
+    requires nearest { IsNearest image.now known.nearest }
     ensures { OnOk result (spec.AddStore image.now cores room word.now (store_named word.now) text.old.items text.new.items) }
 {
     let (store, image) = store_on(alloc, image, cores, word)?;
@@ -103,6 +107,7 @@ fn line_of(
     known: Known<'_>,
 ) -> Result<Line, AllocError>
     requires cores { IsCoreCount image.now cores }
+    requires known { spec.IsKnownOn image.now store known.epochs known.nearest }
     ensures { IfOk result (spec.IsLineOf image.now store cores room) }
 {
     match store {

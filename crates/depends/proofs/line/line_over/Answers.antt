@@ -3,8 +3,8 @@ use Rattle.depends.specs.Never.{IsLeast}
 use Rattle.rv32_image.proofs.Bounds.{most_few}
 use Rattle.depends.proofs.line.line_over.Goals as goal
 
-pub least_conflict-requires : goal.least_conflict-requires
-least_conflict-requires g c = let most = c.requires.cores.most in let few = most_few c.args.image.now.version in omega (arith, most, few)
+pub least_conflict-requires-clause-few : goal.least_conflict-requires-clause-few
+least_conflict-requires-clause-few g c = let most = c.requires.cores.most in let few = most_few c.args.image.now.version in omega (arith, most, few)
 
 pub line_from-requires-clause-cores : goal.line_from-requires-clause-cores
 line_from-requires-clause-cores g c κs within =

@@ -1,6 +1,6 @@
 use Rattle.std.proofs.Common.{ℕ, ◌<◌, ◌≤◌, ◌-◌}
 use Rattle.depends.specs.Never.{Conflicts, NeverOn}
-use Rattle.depends.proofs.least.least_conflict.Given as goal
+use Rattle.depends.proofs.least.least_by_halves.Given as goal
 
 -- epochs conflict on the one number of cores, and on none below the other
 abbrev pub invariant-halves : goal.invariant-halves
