@@ -1,0 +1,153 @@
+-- What a message makes of the other cores, where it can violate none: their marks and their buffers stay in order.
+use Rattle.std.proofs.Common.{◌≡◌, ◌≢◌, ◌⊎◌, ℕ, ◌+◌, ◌≤◌, ◌==◌, ◌||◌, ◌&&◌, not, Bool, true, false, cond, List, [], ◌∷◌, ◌++◌, length, refl, sym, subst, ◌∙◌, inl, inr, arith, eqb-true, length-append}
+use Rattle.std.proofs.lemmas.Bool.{and_parts, both_ways, cases_Bool}
+use Rattle.std.proofs.lemmas.Bool.Decides.{nat_tests}
+use Rattle.spec_states.specs.declared.line.LineState.{LineState}
+use Rattle.spec_states.specs.declared.line.Marks.{Marks}
+use Rattle.spec_states.specs.declared.next.Next.{Next}
+use Rattle.spec_states.specs.Copies.{copy_of}
+use Rattle.spec_states.specs.Mask.{has}
+use Rattle.spec_states.specs.Rows.{GivesWay, requires_ownership}
+use Rattle.spec_states.specs.States.{is_speculative}
+use Rattle.spec_states.specs.Tables.{is_written}
+use Rattle.spec_states.proofs.RowLaws.{speculative-valid, other_load-violates}
+use Rattle.orb.specs.Lines.{holds, is_full, IsEachOnce}
+use Rattle.orb.proofs.EachOnce.{IsEachOnce-push}
+use Rattle.bus_states.specs.declared.notice.Notice.{Notice}
+use Rattle.bus_states.specs.declared.notice.Notice.TheVariants.{Load, Store, Publish}
+use Rattle.bus_states.specs.Bus.{CoreState, Bus, is_later}
+use Rattle.bus_states.specs.Coherent.{speculates}
+use Rattle.bus_states.specs.Messages.{Message, bytes_after, changed_core, dropped_core, heard_core, order, reply, reply_to, violates, with_copy}
+use Rattle.spec_states.specs.Copies as copies
+use Rattle.bus_states.proofs.Cores.{entry-limit}
+use Rattle.bus_states.proofs.Hurting.{reply-violates}
+use Rattle.bus_states.proofs.Replies.{reply-follows, reply-gives_way}
+use Rattle.shared_lines.proofs.Tidy.{IsRight, IsTidy, IsChange, Stays, as_copy, from_copy, no_bytes, changed-tidy, changed-masks, carried-loaded, carried-written, carried-mask, required-written, mask-marked, entry-share, out_of_buffer}
+
+-- the lines that an epoch stores in, and that are shared, are no more than a buffer takes
+abbrev pub FitsBuffer : (ℕ → Type 0) → (ℕ → Type 0) → ℕ → Type 0
+FitsBuffer W H limit = (lines : List ℕ) → IsEachOnce lines → ((a : ℕ) → holds lines a ≡ true → W a × H a) → length lines ≤ limit
+
+-- what is known of a core that hears of a line, where it speculates: its epoch and the sender's touch the line, but don't conflict
+pub record MayHear (R W H : ℕ → Type 0) (notice : Notice) (addr : ℕ) (later : Bool) (limit : ℕ) : Type 0 where
+  pub share : H addr
+  pub spares : (notice ≡ Publish) ⊎ (later ≡ true) → notice ≢ Load → R addr → ⊥
+  pub fits : FitsBuffer W H limit
+
+-- ---- one core
+
+second : {A : Type 0} (b : Bool) (x y : A) → b ≡ false → cond b x y ≡ y
+second true x y e = absurd cc
+second false x y e = refl
+
+none_hit : (same hit over later : Bool) → hit ≡ false → over ≡ false → (not same && (hit || (over && later))) ≡ false
+none_hit same hit over later e f = grind (arith, nat_tests)
+
+no_load : (notice : Notice) (s : LineState) (marks : Marks) (later : Bool) → (reply_to notice s marks (order later)).violated ≡ true → notice ≢ Load
+no_load Load s marks later is same = both_ways _ (other_load-violates s marks) is
+no_load Store s marks later is same = cc
+no_load Publish s marks later is same = cc
+
+module _ (R W H : ℕ → Type 0) (core : CoreState) (h : IsTidy R W H core) (notice : Notice) (addr : ℕ) (later : Bool) (limit : ℕ)
+    (may : speculates core.attempt ≡ true → MayHear R W H notice addr later limit) (limit_is : speculates core.attempt ≡ true → core.buffer.limit ≡ limit) where
+  abbrev state : LineState
+  state = (core.copy addr).state
+
+  abbrev marks : Marks
+  marks = (core.copy addr).marks
+
+  abbrev next : Next
+  next = reply_to notice (core.copy addr).state (core.copy addr).marks (order later)
+
+  right : IsRight state marks
+  right = (h.fit addr).right
+
+  row : GivesWay state marks next
+  row = reply-gives_way notice state marks (order later) right.marked
+
+  runs : is_speculative state ≡ true → speculates core.attempt ≡ true
+  runs marked = elim (cases_Bool (speculates core.attempt)) [
+    | inl is ↦ is
+    | inr out ↦ absurd (both_ways (is_speculative state) (h.unmarked out addr) marked)
+  ]
+
+  pub unhit : next.violated ≡ false
+  unhit = elim (cases_Bool next.violated) [
+    | inl is ↦
+        (let why = reply-violates notice state marks later is in
+        let parts = and_parts (is_speculative state) marks.loaded why.0 in
+        absurd ((may (runs parts.0)).spares why.1 (no_load notice state marks later is) ((h.fit addr).read parts.1)))
+    | inr out ↦ out
+  ]
+
+  entered : next.enters ≡ true → (is_speculative state ≡ true) × (is_written marks ≡ true)
+  entered is =
+      let required = (and_parts (requires_ownership next.state next.marks) (not (requires_ownership state marks)) (sym row.enters ∙ is)).0 in
+      carried-written state marks (subst (λ (x : Marks). is_written x ≡ true) (row.keeps_marks unhit) (required-written next.state next.marks required))
+
+  no_room : next.enters ≡ true → is_full core.buffer ≡ true → ⊥
+  no_room is full =
+      let stored = entered is in
+      let known = may (runs stored.0) in
+      let out : holds core.buffer.lines addr ≡ false = out_of_buffer (holds core.buffer.lines addr) (requires_ownership state marks) (requires_ownership next.state next.marks) next.enters (h.listed addr) row.enters is in
+      let most : length (core.buffer.lines ++ addr ∷ []) ≤ limit = known.fits (core.buffer.lines ++ addr ∷ []) (IsEachOnce-push core.buffer.lines addr h.once out)
+      (λ a held. entry-share (λ x. W x × H x) core.buffer.lines addr a
+      (λ x in_it. ((h.fit x).written (required-written (core.copy x).state (core.copy x).marks (sym (h.listed x) ∙ in_it)), h.share x in_it))
+      ((h.fit addr).written stored.1, known.share) held) in
+      let long : length (core.buffer.lines ++ addr ∷ []) ≡ length core.buffer.lines + 1 = length-append core.buffer.lines (addr ∷ []) in
+      let all : length core.buffer.lines ≡ core.buffer.limit = eqb-true _ _ full in
+      let takes = limit_is (runs stored.0) in
+      omega (arith, most, long, all, takes)
+
+  pub roomy : (next.enters && is_full core.buffer) ≡ false
+  roomy = elim (cases_Bool next.enters) [
+    | inl is ↦ elim (cases_Bool (is_full core.buffer)) [
+      | inl full ↦ absurd (no_room is full)
+      | inr free ↦ rw (is, free) refl
+    ]
+    | inr out ↦ rw out refl
+  ]
+
+  change : IsChange (R addr) (W addr) (H addr) core.attempt (core.copy addr) next
+  change = record {
+    enters = row.enters;
+    stays_required = row.stays_required unhit;
+    fit = record {
+      right = from_copy (copy_of next.state next.marks (bytes_after notice next.marks.bytes no_bytes no_bytes)) no_bytes
+          (reply-follows notice state marks (order later) no_bytes no_bytes no_bytes (λ other. refl) (as_copy state marks right));
+      read = λ is. (h.fit addr).read (carried-loaded state marks (subst (λ (x : Marks). x.loaded ≡ true) (row.keeps_marks unhit) is));
+      written = λ is. (h.fit addr).written (carried-written state marks (subst (λ (x : Marks). is_written x ≡ true) (row.keeps_marks unhit) is)).1;
+    };
+    entered = λ is. (may (runs (entered is).0)).share;
+    unmarked = λ quiet. row.unmarked (h.unmarked quiet addr);
+  }
+
+  pub changed-stays : (cell : ℕ → ℕ) → Stays R W H core (changed_core addr next cell core)
+  changed-stays cell = record {
+    tidy = changed-tidy R W H core h addr next cell change;
+    masks = changed-masks core addr next cell (λ x had. (
+      speculative-valid next.state (row.stays_marked unhit (mask-marked state marks x right had)),
+      subst (λ (y : Marks). has y.bytes x ≡ true) (sym (row.keeps_marks unhit)) (carried-mask state marks x right had),
+    ));
+    attempt = refl;
+    limit = entry-limit next.enters addr core.buffer;
+  }
+
+-- ---- the cores of a bus
+
+module _ (R W H : ℕ → Type 0) (bus : Bus) (message : Message) (k limit : ℕ) (h : IsTidy R W H (bus.core k))
+    (may : speculates (bus.core k).attempt ≡ true → MayHear R W H message.notice message.addr (is_later bus message.sender k) limit)
+    (limit_is : speculates (bus.core k).attempt ≡ true → (bus.core k).buffer.limit ≡ limit) where
+  pub unviolated : violates bus message k ≡ false
+  unviolated =
+      none_hit (k == message.sender) (reply bus message k).violated ((reply bus message k).enters && is_full (bus.core k).buffer) (is_later bus message.sender k)
+      (unhit R W H (bus.core k) h message.notice message.addr (is_later bus message.sender k) limit may limit_is)
+      (roomy R W H (bus.core k) h message.notice message.addr (is_later bus message.sender k) limit may limit_is)
+
+  pub heard-stays : Stays R W H (bus.core k) (heard_core bus message k)
+  heard-stays =
+      subst (λ (c : CoreState). Stays R W H (bus.core k) c)
+      (sym (second (violates bus message k) (with_copy message.addr copies.no_copy (dropped_core (bus.core k)))
+      (changed_core message.addr (reply bus message k) (bytes_after message.notice (reply bus message k).marks.bytes ((bus.core k).copy message.addr).cell message.line) (bus.core k)) unviolated))
+      (changed-stays R W H (bus.core k) h message.notice message.addr (is_later bus message.sender k) limit may limit_is
+      (bytes_after message.notice (reply bus message k).marks.bytes ((bus.core k).copy message.addr).cell message.line))
