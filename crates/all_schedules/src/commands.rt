@@ -31,7 +31,7 @@ use violations::PlainStore;
 /// drives every schedule of so many turns, or runs by a pace or on threads, whose turns pass this gate, and answers its status: what
 /// `asked_in` of `specs/Asked.antt` says.
 ///
-/// Any other words are refused as `usage`, with status 2, and nothing is read or written.
+/// Any other words are refused as `usage`, with status 2, and nothing is read or written. The room is at most 1,048,576 entries.
 pub fn work<S: AsStr, G: Gate, T: Threads + Wait + Sync, R: Read, W: Write, E: Write>(
     rt: &T,
     alloc: Global,
