@@ -208,7 +208,8 @@ module _ (image : LoadedImage) (cores : ℕ) (machine : IsMachineFor image.size 
         share = share_of image cores machine.is.line_length c.epoch d.epoch n addr line (beside_of by k c d at at_k (λ same. away (sym same))) touches;
         spares = λ why load reads. conflict_of image cores machine.is.line_length free c.epoch d.epoch addr
             (two_beside image cores s going window orderly by k c d at at_k (before k d away at_k why)) (writes load) reads;
-        fits = fits_of image cores machine.is.line_length room d.epoch;
+        fits = λ later. fits_of image cores machine.is.line_length room c.epoch d.epoch n addr line
+            (two_beside image cores s going window orderly by k c d at at_k (before k d away at_k (inr later))) touches;
       }
 
       pub may_tell : MayTell (Reads image cores) (Writes image cores) (Shares image cores) (attempts bus) (limits bus) by notice addr image.machine.buffer_lines

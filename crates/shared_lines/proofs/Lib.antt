@@ -26,3 +26,5 @@ pub mod Homefree
 -- Any turn, and all turns of a drive.
 pub mod Steps
 pub mod Drives
+-- Buffers that shared lines overflow.
+pub mod Overflows

@@ -11,7 +11,7 @@ use Rattle.dependences.specs.Conflict.{AreBeside, LineConflict, PathReads, Store
 use Rattle.dependences.specs.KeptTouches.{TouchesIn}
 use Rattle.dependences.proofs.Meetings.{passing}
 use Rattle.dependences.proofs.Windows.{count_more}
-use Rattle.shared_lines.specs.Shared.{IsShared, RunBeside, SharedOverflow, StoresShared}
+use Rattle.shared_lines.specs.Shared.{IsShared, RunBeside, SharedOverflow}
 use Rattle.shared_lines.proofs.Messages.{FitsBuffer}
 
 -- the epoch's path reads a byte of this line from outside
@@ -33,7 +33,7 @@ abbrev pub Writes : LoadedImage → ℕ → ℕ → ℕ → Type 0
 Writes image cores e a = OfLine image.machine.line_length (StoresIn image e (path_memory image cores e)) a
 
 abbrev pub Shares : LoadedImage → ℕ → ℕ → ℕ → Type 0
-Shares image cores e a = OfLine image.machine.line_length (IsShared image cores e) a
+Shares image cores e a = OfLine image.machine.line_length (IsShared image cores (path_memory image cores) e) a
 
 -- lines at one address are one
 pub one_line : (n i j : ℕ) → is_line_length n ≡ true → n * i ≡ n * j → i ≡ j
@@ -121,42 +121,54 @@ module _ (image : LoadedImage) (cores : ℕ) (lines_are : is_line_length image.m
   share_read e f a beside r =
       share_of e f r.number a r.is beside (record { at = r.holds_of.at; in_line = r.holds_of.in_line; touches = record { step = r.holds_of.reads.step; there = inl r.holds_of.reads.there } })
 
-  -- the lines that the epoch stores in, and that are shared, fit into its buffer
-  pub fits_of : (SharedOverflow image cores → ⊥) → (e : ℕ) → FitsBuffer (Writes image cores e) (Shares image cores e) image.machine.buffer_lines
-  fits_of room e lines once all = elim (cases_lt image.machine.buffer_lines (length lines)) [
-    | inl many ↦ absurd (room (overflow many))
-    | inr few ↦ few
+  abbrev IsOther : ℕ → ℕ → ℕ → Type 0
+  IsOther f n m = (m ≢ n) × StoresIn image f (path_memory image cores f) m × IsShared image cores (path_memory image cores) f m
+
+  -- where an epoch stores in a line that an earlier one touches, the others that it stores in, and that are shared, are fewer than its
+  -- buffer takes
+  pub fits_of : (SharedOverflow image cores → ⊥) → (e f n a : ℕ) → a ≡ image.machine.line_length * n → AreBeside image cores e f
+      → TouchesIn image e (path_memory image cores e) n → FitsBuffer (Writes image cores f) (Shares image cores f) a image.machine.buffer_lines
+  fits_of room e f n a at beside touches writes lines once all = elim (cases_lt (length lines) image.machine.buffer_lines) [
+    | inl few ↦ few
+    | inr many ↦ absurd (room (overflow many))
   ]
     where
       test : ℕ → Bool
-      test n = holds lines (image.machine.line_length * n)
+      test m = holds lines (image.machine.line_length * m)
 
-      stores_shared : (n : ℕ) → test n ≡ true → StoresShared image cores e n
-      stores_shared n is =
-          let both = all (image.machine.line_length * n) is in
-          let stored = one_line image.machine.line_length both.0.number n lines_are (sym both.0.is) in
-          let shared = one_line image.machine.line_length both.1.number n lines_are (sym both.1.is) in record {
-            stores = subst (λ (m : ℕ). StoresIn image e (path_memory image cores e) m) stored both.0.holds_of;
-            shared = subst (λ (m : ℕ). IsShared image cores e m) shared both.1.holds_of;
-          }
+      others : (m : ℕ) → test m ≡ true → IsOther f n m
+      others m is =
+          let three = all (image.machine.line_length * m) is in
+          let stored = one_line image.machine.line_length three.1.number m lines_are (sym three.1.is) in
+          let shared = one_line image.machine.line_length three.2.number m lines_are (sym three.2.is) in (
+            λ same. three.0 (ap (λ x. image.machine.line_length * x) same ∙ sym at),
+            subst (λ (x : ℕ). StoresIn image f (path_memory image cores f) x) stored three.1.holds_of,
+            subst (λ (x : ℕ). IsShared image cores (path_memory image cores) f x) shared three.2.holds_of,
+          )
 
-      is_of : (a : ℕ) → holds lines a ≡ true → IsOf image.machine.line_length (above lines) test a
-      is_of a is =
-          let w = (all a is).0 in
-          let below = is_above lines a is in
+      is_of : (b : ℕ) → holds lines b ≡ true → IsOf image.machine.line_length (above lines) test b
+      is_of b is =
+          let w = (all b is).1 in
+          let below = is_above lines b is in
           let low = low_number image.machine.line_length w.number lines_are in
-          let at = w.is in
-          (w.number, at, omega (arith, below, low, at), ap (holds lines) (sym at) ∙ is)
+          let there = w.is in
+          (w.number, there, omega (arith, below, low, there), ap (holds lines) (sym there) ∙ is)
 
-      overflow : image.machine.buffer_lines < length lines → SharedOverflow image cores
+      overflow : image.machine.buffer_lines ≤ length lines → SharedOverflow image cores
       overflow many =
-          let found = passing (StoresShared image cores e) test stores_shared (above lines) in
+          let found = passing (IsOther f n) test others (above lines) in
           let most = at_most image.machine.line_length (above lines) lines test once is_of in
           let count = found.long in record {
-            epoch = e;
-            lines = found.list;
+            earlier = e;
+            later = f;
+            line = n;
+            others = found.list;
             bound = above lines;
+            beside = beside;
+            touches = touches;
+            stores = subst (λ (x : ℕ). StoresIn image f (path_memory image cores f) x)
+                (one_line image.machine.line_length writes.number n lines_are (sym writes.is ∙ at)) writes.holds_of;
             apart = found.falling;
-            many = omega (arith, many, most, count);
+            full = omega (arith, many, most, count);
             each = found.each;
           }

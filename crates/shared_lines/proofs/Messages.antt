@@ -1,5 +1,5 @@
 -- What a message makes of the other cores, where it can violate none: their marks and their buffers stay in order.
-use Rattle.std.proofs.Common.{◌≡◌, ◌≢◌, ◌⊎◌, ℕ, ◌+◌, ◌≤◌, ◌==◌, ◌||◌, ◌&&◌, not, Bool, true, false, cond, List, [], ◌∷◌, ◌++◌, length, refl, sym, subst, ◌∙◌, inl, inr, arith, eqb-true, length-append}
+use Rattle.std.proofs.Common.{◌≡◌, ◌≢◌, ◌⊎◌, ℕ, ◌<◌, ◌==◌, ◌||◌, ◌&&◌, not, Bool, true, false, cond, List, length, refl, sym, subst, ◌∙◌, inl, inr, arith, eqb-true}
 use Rattle.std.proofs.lemmas.Bool.{and_parts, both_ways, cases_Bool}
 use Rattle.std.proofs.lemmas.Bool.Decides.{nat_tests}
 use Rattle.spec_states.specs.declared.line.LineState.{LineState}
@@ -12,7 +12,6 @@ use Rattle.spec_states.specs.States.{is_speculative}
 use Rattle.spec_states.specs.Tables.{is_written}
 use Rattle.spec_states.proofs.RowLaws.{speculative-valid, other_load-violates}
 use Rattle.orb.specs.Lines.{holds, is_full, IsEachOnce}
-use Rattle.orb.proofs.EachOnce.{IsEachOnce-push}
 use Rattle.bus_states.specs.declared.notice.Notice.{Notice}
 use Rattle.bus_states.specs.declared.notice.Notice.TheVariants.{Load, Store, Publish}
 use Rattle.bus_states.specs.Bus.{CoreState, Bus, is_later}
@@ -22,17 +21,18 @@ use Rattle.spec_states.specs.Copies as copies
 use Rattle.bus_states.proofs.Cores.{entry-limit}
 use Rattle.bus_states.proofs.Hurting.{reply-violates}
 use Rattle.bus_states.proofs.Replies.{reply-follows, reply-gives_way}
-use Rattle.shared_lines.proofs.Tidy.{IsRight, IsTidy, IsChange, Stays, as_copy, from_copy, no_bytes, changed-tidy, changed-masks, carried-loaded, carried-written, carried-mask, required-written, mask-marked, entry-share, out_of_buffer}
+use Rattle.shared_lines.proofs.Tidy.{IsRight, IsTidy, IsChange, Stays, as_copy, from_copy, no_bytes, changed-tidy, changed-masks, carried-loaded, carried-written, carried-mask, required-written, mask-marked, out_of_buffer}
 
--- the lines that an epoch stores in, and that are shared, are no more than a buffer takes
-abbrev pub FitsBuffer : (ℕ → Type 0) → (ℕ → Type 0) → ℕ → Type 0
-FitsBuffer W H limit = (lines : List ℕ) → IsEachOnce lines → ((a : ℕ) → holds lines a ≡ true → W a × H a) → length lines ≤ limit
+-- where an epoch stores in this line, the others that it stores in, and that are shared, are fewer than a buffer takes
+abbrev pub FitsBuffer : (ℕ → Type 0) → (ℕ → Type 0) → ℕ → ℕ → Type 0
+FitsBuffer W H addr limit =
+    W addr → (lines : List ℕ) → IsEachOnce lines → ((a : ℕ) → holds lines a ≡ true → (a ≢ addr) × W a × H a) → length lines < limit
 
 -- what is known of a core that hears of a line, where it speculates: its epoch and the sender's touch the line, but don't conflict
 pub record MayHear (R W H : ℕ → Type 0) (notice : Notice) (addr : ℕ) (later : Bool) (limit : ℕ) : Type 0 where
   pub share : H addr
   pub spares : (notice ≡ Publish) ⊎ (later ≡ true) → notice ≢ Load → R addr → ⊥
-  pub fits : FitsBuffer W H limit
+  pub fits : later ≡ true → FitsBuffer W H addr limit
 
 -- ---- one core
 
@@ -40,8 +40,14 @@ second : {A : Type 0} (b : Bool) (x y : A) → b ≡ false → cond b x y ≡ y
 second true x y e = absurd cc
 second false x y e = refl
 
-none_hit : (same hit over later : Bool) → hit ≡ false → over ≡ false → (not same && (hit || (over && later))) ≡ false
-none_hit same hit over later e f = grind (arith, nat_tests)
+none_hit : (same hit late : Bool) → hit ≡ false → late ≡ false → (not same && (hit || late)) ≡ false
+none_hit same hit late e f = grind (arith, nat_tests)
+
+none_late : (enters full later : Bool) → (later ≡ true → enters ≡ true → full ≡ true → ⊥) → ((enters && full) && later) ≡ false
+none_late true true true none = absurd (none refl refl refl)
+none_late true true false none = refl
+none_late true false later none = refl
+none_late false full later none = refl
 
 no_load : (notice : Notice) (s : LineState) (marks : Marks) (later : Bool) → (reply_to notice s marks (order later)).violated ≡ true → notice ≢ Load
 no_load Load s marks later is same = both_ways _ (other_load-violates s marks) is
@@ -85,28 +91,22 @@ module _ (R W H : ℕ → Type 0) (core : CoreState) (h : IsTidy R W H core) (no
       let required = (and_parts (requires_ownership next.state next.marks) (not (requires_ownership state marks)) (sym row.enters ∙ is)).0 in
       carried-written state marks (subst (λ (x : Marks). is_written x ≡ true) (row.keeps_marks unhit) (required-written next.state next.marks required))
 
-  no_room : next.enters ≡ true → is_full core.buffer ≡ true → ⊥
-  no_room is full =
+  no_room : later ≡ true → next.enters ≡ true → is_full core.buffer ≡ true → ⊥
+  no_room after is full =
       let stored = entered is in
       let known = may (runs stored.0) in
       let out : holds core.buffer.lines addr ≡ false = out_of_buffer (holds core.buffer.lines addr) (requires_ownership state marks) (requires_ownership next.state next.marks) next.enters (h.listed addr) row.enters is in
-      let most : length (core.buffer.lines ++ addr ∷ []) ≤ limit = known.fits (core.buffer.lines ++ addr ∷ []) (IsEachOnce-push core.buffer.lines addr h.once out)
-      (λ a held. entry-share (λ x. W x × H x) core.buffer.lines addr a
-      (λ x in_it. ((h.fit x).written (required-written (core.copy x).state (core.copy x).marks (sym (h.listed x) ∙ in_it)), h.share x in_it))
-      ((h.fit addr).written stored.1, known.share) held) in
-      let long : length (core.buffer.lines ++ addr ∷ []) ≡ length core.buffer.lines + 1 = length-append core.buffer.lines (addr ∷ []) in
+      let few : length core.buffer.lines < limit = known.fits after ((h.fit addr).written stored.1) core.buffer.lines h.once (λ a held. (
+        λ same. both_ways (holds core.buffer.lines addr) out (subst (λ (x : ℕ). holds core.buffer.lines x ≡ true) same held),
+        (h.fit a).written (required-written (core.copy a).state (core.copy a).marks (sym (h.listed a) ∙ held)),
+        h.share a held,
+      )) in
       let all : length core.buffer.lines ≡ core.buffer.limit = eqb-true _ _ full in
       let takes = limit_is (runs stored.0) in
-      omega (arith, most, long, all, takes)
+      omega (arith, few, all, takes)
 
-  pub roomy : (next.enters && is_full core.buffer) ≡ false
-  roomy = elim (cases_Bool next.enters) [
-    | inl is ↦ elim (cases_Bool (is_full core.buffer)) [
-      | inl full ↦ absurd (no_room is full)
-      | inr free ↦ rw (is, free) refl
-    ]
-    | inr out ↦ rw out refl
-  ]
+  pub roomy : ((next.enters && is_full core.buffer) && later) ≡ false
+  roomy = none_late next.enters (is_full core.buffer) later no_room
 
   change : IsChange (R addr) (W addr) (H addr) core.attempt (core.copy addr) next
   change = record {
@@ -140,7 +140,7 @@ module _ (R W H : ℕ → Type 0) (bus : Bus) (message : Message) (k limit : ℕ
     (limit_is : speculates (bus.core k).attempt ≡ true → (bus.core k).buffer.limit ≡ limit) where
   pub unviolated : violates bus message k ≡ false
   unviolated =
-      none_hit (k == message.sender) (reply bus message k).violated ((reply bus message k).enters && is_full (bus.core k).buffer) (is_later bus message.sender k)
+      none_hit (k == message.sender) (reply bus message k).violated (((reply bus message k).enters && is_full (bus.core k).buffer) && is_later bus message.sender k)
       (unhit R W H (bus.core k) h message.notice message.addr (is_later bus message.sender k) limit may limit_is)
       (roomy R W H (bus.core k) h message.notice message.addr (is_later bus message.sender k) limit may limit_is)
 

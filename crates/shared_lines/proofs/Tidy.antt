@@ -102,7 +102,7 @@ entry-once : (enters : Bool) (addr : ℕ) (buffer : Buffer) → IsEachOnce buffe
 entry-once true addr buffer once out = IsEachOnce-push buffer.lines addr once (out refl)
 entry-once false addr buffer once out = once
 
-pub entry-share : (H : ℕ → Type 0) (lines : List ℕ) (addr a : ℕ) → ((x : ℕ) → holds lines x ≡ true → H x) → H addr → holds (lines ++ addr ∷ []) a ≡ true → H a
+entry-share : (H : ℕ → Type 0) (lines : List ℕ) (addr a : ℕ) → ((x : ℕ) → holds lines x ≡ true → H x) → H addr → holds (lines ++ addr ∷ []) a ≡ true → H a
 entry-share H lines addr a old new is = elim (cases_Bool (holds lines a)) [
   | inl held ↦ old a held
   | inr out ↦ let same : addr ≡ a = eqb-true addr a (sym (ap (λ b. b || (addr == a)) out) ∙ (sym (holds-push lines addr a) ∙ is)) in subst H same new

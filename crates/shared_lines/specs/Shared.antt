@@ -1,7 +1,7 @@
 -- The lines of an epoch that others touch, and what a buffer takes of these.
 -- Source: this project; that a buffer lists just the lines that other caches may hold is of Steffan, Colohan, Zhai and Mowry, "A
 -- Scalable Approach to Thread-Level Speculation", ISCA 2000.
-use Rattle.std.specs.Prelude.{◌⊎◌, ℕ, ◌<◌, List, length, All}
+use Rattle.std.specs.Prelude.{◌≢◌, ◌⊎◌, ℕ, ◌≤◌, List, length, All}
 use Rattle.rv32_image.specs.Image.{LoadedImage}
 use Rattle.dependences.specs.Conflict.{AreBeside, AreFalling, StoresIn, path_memory}
 use Rattle.dependences.specs.KeptTouches.{TouchesIn}
@@ -10,22 +10,26 @@ use Rattle.dependences.specs.KeptTouches.{TouchesIn}
 abbrev pub RunBeside : LoadedImage → ℕ → ℕ → ℕ → Type 0
 RunBeside image cores e f = AreBeside image cores e f ⊎ AreBeside image cores f e
 
--- another epoch, which can run beside this one, touches the line on its path
-pub record IsShared (image : LoadedImage) (cores epoch line : ℕ) : Type 0 where
+-- another epoch, which can run beside this one, touches the line, each over its own memory
+pub record IsShared (image : LoadedImage) (cores : ℕ) (memory : ℕ → List ℕ) (epoch line : ℕ) : Type 0 where
   pub other : ℕ
   pub beside : RunBeside image cores other epoch
-  pub touches : TouchesIn image other (path_memory image cores other) line
+  pub touches : TouchesIn image other (memory other) line
 
--- on its path the epoch stores in the line, and the line is shared
-pub record StoresShared (image : LoadedImage) (cores epoch line : ℕ) : Type 0 where
-  pub stores : StoresIn image epoch (path_memory image cores epoch) line
-  pub shared : IsShared image cores epoch line
-
--- an epoch stores in more shared lines than its buffer takes
-pub record SharedOverflow (image : LoadedImage) (cores : ℕ) : Type 0 where
-  pub epoch : ℕ
-  pub lines : List ℕ
+-- an epoch stores in a line that an earlier one touches, and in as many others as its buffer takes, which epochs beside it touch too
+pub record SharedOverflowOver (image : LoadedImage) (cores : ℕ) (memory : ℕ → List ℕ) : Type 0 where
+  pub earlier : ℕ
+  pub later : ℕ
+  pub line : ℕ
+  pub others : List ℕ
   pub bound : ℕ
-  pub apart : AreFalling bound lines
-  pub many : image.machine.buffer_lines < length lines
-  pub each : All (λ line. StoresShared image cores epoch line) lines
+  pub beside : AreBeside image cores earlier later
+  pub touches : TouchesIn image earlier (memory earlier) line
+  pub stores : StoresIn image later (memory later) line
+  pub apart : AreFalling bound others
+  pub full : image.machine.buffer_lines ≤ length others
+  pub each : All (λ l. (l ≢ line) × StoresIn image later (memory later) l × IsShared image cores memory later l) others
+
+-- so on the paths of the epochs
+abbrev pub SharedOverflow : LoadedImage → ℕ → Type 0
+SharedOverflow image cores = SharedOverflowOver image cores (path_memory image cores)

@@ -1,6 +1,8 @@
-//! What no schedule can roll back over the caches on a bus: the function does nothing, and its contract is the law.
+//! What no schedule can roll back over the caches on a bus: each function does nothing, and its contract is the law.
 
-ghost use Rattle.dependences.specs.Conflict.{LineConflict};
+ghost use Rattle.std.specs.Prelude.{ℕ};
+ghost use Rattle.rv32_image.specs.Image.{LoadedImage};
+ghost use Rattle.dependences.specs.Conflict.{LineConflict, Overflow};
 ghost use Rattle.dependences.specs.Laws.{NoneIsHurt};
 ghost use Rattle.shared_lines.specs.Shared.{SharedOverflow};
 
@@ -8,11 +10,16 @@ use homefree::Book;
 use spec_bus::CachedBus;
 
 /// Of every book over the caches on a bus, whatever turns led to it, on one thread or on many: where no two epochs conflict over
-/// lines of the caches, and no epoch stores in more lines than its buffer takes that epochs beside it touch, its history has no
-/// violation.
+/// lines of the caches, and no epoch stores in a line that an earlier one touches, and in as many other shared lines as its buffer
+/// takes, its history has no violation.
 pub fn without_line_conflict_and_shared_overflow_no_bus_is_hurt(book: &Book<CachedBus>)
     ensures { (LineConflict book.now.image book.now.cores → ⊥) → (SharedOverflow book.now.image book.now.cores → ⊥) → NoneIsHurt book.now.history }
 {
     book.look();
     book.look_back();
 }
+
+/// An overflow by shared lines is an overflow: so the law that takes none of the first is the finer one.
+pub fn shared_overflow_is_overflow()
+    ensures { (image : LoadedImage) (cores : ℕ) → SharedOverflow image cores → Overflow image cores }
+{}
