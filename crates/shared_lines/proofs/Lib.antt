@@ -26,5 +26,7 @@ pub mod Homefree
 -- Any turn, and all turns of a drive.
 pub mod Steps
 pub mod Drives
+-- A loop and so many cores, without a book.
+pub mod Nevers
 -- Buffers that shared lines overflow.
 pub mod Overflows

@@ -3,7 +3,8 @@
 ghost use Rattle.std.specs.Prelude.{ℕ};
 ghost use Rattle.rv32_image.specs.Image.{LoadedImage};
 ghost use Rattle.dependences.specs.Conflict.{LineConflict, Overflow};
-ghost use Rattle.dependences.specs.Laws.{NoneIsHurt};
+ghost use Rattle.dependences.specs.Laws.{NeverOverLines, NoneIsHurt};
+ghost use Rattle.shared_lines.specs.NeverOverBus.{NeverOverBus};
 ghost use Rattle.shared_lines.specs.Shared.{SharedOverflow};
 
 use homefree::Book;
@@ -18,6 +19,24 @@ pub fn without_line_conflict_and_shared_overflow_no_bus_is_hurt(book: &Book<Cach
     book.look();
     book.look_back();
 }
+
+/// The same of a loop and a number of cores, without a book.
+pub fn without_line_conflict_and_shared_overflow_never_over_bus()
+    ensures { (image : LoadedImage) (cores : ℕ) → (LineConflict image cores → ⊥) → (SharedOverflow image cores → ⊥) → NeverOverBus image cores }
+{}
+
+/// Of every book over the caches: where no such book of its image and so many cores has a violation, its history has none.
+pub fn never_over_bus_no_bus_is_hurt(book: &Book<CachedBus>)
+    ensures { NeverOverBus book.now.image book.now.cores → NoneIsHurt book.now.history }
+{
+    book.look();
+    book.look_back();
+}
+
+/// Where no legal history has a violation, if each is of a kind, no book over the caches has one: `dependences` has laws of the first.
+pub fn never_over_lines_never_over_bus()
+    ensures { (image : LoadedImage) (cores : ℕ) → NeverOverLines image cores → NeverOverBus image cores }
+{}
 
 /// An overflow by shared lines is an overflow: so the law that takes none of the first is the finer one.
 pub fn shared_overflow_is_overflow()
