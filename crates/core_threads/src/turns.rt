@@ -75,16 +75,9 @@ pub fn core_loop<S: EpochStore, G: Gate, R: Wait>(
     let mut hart = start(image, 0);
     let mut turn = 0u64;
     for _ in rt.forever() {
-        let (later, after) = one_turn(
-            rt,
-            lock,
-            gate,
-            turn,
-            pass,
-            &mut shares,
-            next.as_ref(),
-            &mut hart,
-        );
+        let handed = next.as_ref();
+        let passed = gate.pass(pass.who() as u32, turn, handed);
+        let (later, after) = one_turn(rt, lock, passed, pass, &mut shares, handed, &mut hart);
         turn = turn.saturating_add(1);
         pass = later;
         match after {
@@ -103,13 +96,11 @@ pub fn core_loop<S: EpochStore, G: Gate, R: Wait>(
     unreachable!()
 }
 
-/// Passes the gate with the number of this turn, and then takes the lock for it, or to stop the book where the gate is shut. Sets the hart
-/// where the core goes on.
-fn one_turn<S: EpochStore, G: Gate, R: Wait>(
+/// Takes the lock for a turn, or to stop the book where the gate is shut. Sets the hart where the core goes on.
+fn one_turn<S: EpochStore, R: Wait>(
     rt: &R,
     lock: &TicketLock<Book<S>>,
-    gate: &G,
-    turn: u64,
+    passed: Result<(), Shut>,
     pass: Pass<Book<S>>,
     shares: &mut Shares,
     next: Option<&Arrived>,
@@ -128,7 +119,6 @@ fn one_turn<S: EpochStore, G: Gate, R: Wait>(
         → TakesTurn S.makes S.view S.waits lock.now.fixed pass.lo (option_copied next.entry) pass result.0 shares.old shares.new hart.old hart.new result.1 }
 {
     let core = pass.who() as u32;
-    let passed = gate.pass(core, turn, next);
     match lock.lock(rt, pass) {
         Ok(mut held) => {
             let after = act(held.value(), core, passed, next, shares, hart);

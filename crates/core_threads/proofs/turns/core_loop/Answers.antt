@@ -33,7 +33,7 @@ loop-preserved-in-Waits g c = (
       (one_more g.S.EpochStore.makes g.S.EpochStore.view g.S.EpochStore.waits c.args.lock.now.fixed c.args.pass.lo c.loop.pass c.one_turn-later.result.0 q c.loop.shares c.one_turn-later.new.shares shares c.loop.next
       c.loop.hart c.one_turn-later.new.hart c.one_turn-later.result.1 end
       (its_turn g.S.EpochStore.makes g.S.EpochStore.view g.S.EpochStore.waits c.args.lock.now.fixed c.loop.pass.lo c.args.pass.lo c.loop.pass c.one_turn-later.result.0 c.loop.shares c.one_turn-later.new.shares
-      (option_copied c.as_ref.result) c.loop.next c.loop.hart c.one_turn-later.new.hart c.one_turn-later.result.1 c.loop.invariant.0.lo c.as_ref.ensures.value
+      (option_copied c.as_ref-handed.result) c.loop.next c.loop.hart c.one_turn-later.new.hart c.one_turn-later.result.1 c.loop.invariant.0.lo c.as_ref-handed.ensures.value
       (c.one_turn-later.ensures.turn (isnt_waits c.one_turn-later.result.1 loop.Spent c.in-Waits.is)))
       n _ (λ e. isnt_waits c.one_turn-later.result.1 e c.in-Waits.is) (ap (λ (a : After). hand_after c.args.lock.now.fixed.image a c.one_turn-later.new.hart c.loop.next) (sym c.in-Waits.is)) rest),
 )
@@ -47,7 +47,7 @@ loop-preserved g c = (
       (one_more g.S.EpochStore.makes g.S.EpochStore.view g.S.EpochStore.waits c.args.lock.now.fixed c.args.pass.lo c.loop.pass c.one_turn-later.result.0 q c.loop.shares c.one_turn-later.new.shares shares c.loop.next
       c.loop.hart c.one_turn-later.new.hart c.one_turn-later.result.1 end
       (its_turn g.S.EpochStore.makes g.S.EpochStore.view g.S.EpochStore.waits c.args.lock.now.fixed c.loop.pass.lo c.args.pass.lo c.loop.pass c.one_turn-later.result.0 c.loop.shares c.one_turn-later.new.shares
-      (option_copied c.as_ref.result) c.loop.next c.loop.hart c.one_turn-later.new.hart c.one_turn-later.result.1 c.loop.invariant.0.lo c.as_ref.ensures.value
+      (option_copied c.as_ref-handed.result) c.loop.next c.loop.hart c.one_turn-later.new.hart c.one_turn-later.result.1 c.loop.invariant.0.lo c.as_ref-handed.ensures.value
       (c.one_turn-later.ensures.turn (isnt_leaves c.one_turn-later.result.1 loop.Spent c.in-Leaves.is)))
       n _ (λ e. isnt_leaves c.one_turn-later.result.1 e c.in-Leaves.is) (ap (λ (a : After). hand_after c.args.lock.now.fixed.image a c.one_turn-later.new.hart c.loop.next) (sym c.in-Leaves.is)) rest),
 )
@@ -61,7 +61,7 @@ loop-preserved-in-Some-next g c = (
       (one_more g.S.EpochStore.makes g.S.EpochStore.view g.S.EpochStore.waits c.args.lock.now.fixed c.args.pass.lo c.loop.pass c.one_turn-later.result.0 q c.loop.shares c.one_turn-later.new.shares shares c.loop.next
       c.loop.hart c.one_turn-later.new.hart c.one_turn-later.result.1 end
       (its_turn g.S.EpochStore.makes g.S.EpochStore.view g.S.EpochStore.waits c.args.lock.now.fixed c.loop.pass.lo c.args.pass.lo c.loop.pass c.one_turn-later.result.0 c.loop.shares c.one_turn-later.new.shares
-      (option_copied c.as_ref.result) c.loop.next c.loop.hart c.one_turn-later.new.hart c.one_turn-later.result.1 c.loop.invariant.0.lo c.as_ref.ensures.value
+      (option_copied c.as_ref-handed.result) c.loop.next c.loop.hart c.one_turn-later.new.hart c.one_turn-later.result.1 c.loop.invariant.0.lo c.as_ref-handed.ensures.value
       (c.one_turn-later.ensures.turn (isnt_goes c.one_turn-later.result.1 loop.Spent c.in-Goes.is)))
       n _ (λ e. isnt_goes c.one_turn-later.result.1 e c.in-Goes.is) (ap Some (arrival_is c.args.lock.now.fixed.image c.args.image.now c.one_turn-later.new.hart c.advance_from.new.self c.requires.image c.advance_from.ensures.base c.advance_from.ensures.now c.advance_from.ensures.at)
       ∙ ap (λ (a : After). hand_after c.args.lock.now.fixed.image a c.one_turn-later.new.hart c.loop.next) (sym c.in-Goes.is)) rest),
@@ -76,7 +76,7 @@ loop-preserved-in-None-next g c = (
       (one_more g.S.EpochStore.makes g.S.EpochStore.view g.S.EpochStore.waits c.args.lock.now.fixed c.args.pass.lo c.loop.pass c.one_turn-later.result.0 q c.loop.shares c.one_turn-later.new.shares shares c.loop.next
       c.loop.hart c.one_turn-later.new.hart c.one_turn-later.result.1 end
       (its_turn g.S.EpochStore.makes g.S.EpochStore.view g.S.EpochStore.waits c.args.lock.now.fixed c.loop.pass.lo c.args.pass.lo c.loop.pass c.one_turn-later.result.0 c.loop.shares c.one_turn-later.new.shares
-      (option_copied c.as_ref.result) c.loop.next c.loop.hart c.one_turn-later.new.hart c.one_turn-later.result.1 c.loop.invariant.0.lo c.as_ref.ensures.value
+      (option_copied c.as_ref-handed.result) c.loop.next c.loop.hart c.one_turn-later.new.hart c.one_turn-later.result.1 c.loop.invariant.0.lo c.as_ref-handed.ensures.value
       (c.one_turn-later.ensures.turn (isnt_goes c.one_turn-later.result.1 loop.Spent c.in-Goes.is)))
       n _ (λ e. isnt_goes c.one_turn-later.result.1 e c.in-Goes.is) (ap Some (arrival_is c.args.lock.now.fixed.image c.args.image.now c.one_turn-later.new.hart c.advance.result c.requires.image c.advance.ensures.base c.advance.ensures.now c.advance.ensures.at)
       ∙ ap (λ (a : After). hand_after c.args.lock.now.fixed.image a c.one_turn-later.new.hart c.loop.next) (sym c.in-Goes.is)) rest),
@@ -97,4 +97,4 @@ returns-in-Ends-clause-turns g c =
     (ends_by g.S.EpochStore.makes g.S.EpochStore.view g.S.EpochStore.waits c.args.lock.now.fixed c.args.pass.lo c.loop.pass c.one_turn-later.result.0 c.loop.shares c.one_turn-later.new.shares c.loop.next
     c.loop.hart c.one_turn-later.new.hart c.one_turn-later.result.1 c.in-Ends.end c.in-Ends.is c.one_turn-later.ensures.none
     (λ on. its_turn g.S.EpochStore.makes g.S.EpochStore.view g.S.EpochStore.waits c.args.lock.now.fixed c.loop.pass.lo c.args.pass.lo c.loop.pass c.one_turn-later.result.0 c.loop.shares c.one_turn-later.new.shares
-    (option_copied c.as_ref.result) c.loop.next c.loop.hart c.one_turn-later.new.hart c.one_turn-later.result.1 c.loop.invariant.0.lo c.as_ref.ensures.value (c.one_turn-later.ensures.turn on)))
+    (option_copied c.as_ref-handed.result) c.loop.next c.loop.hart c.one_turn-later.new.hart c.one_turn-later.result.1 c.loop.invariant.0.lo c.as_ref-handed.ensures.value (c.one_turn-later.ensures.turn on)))

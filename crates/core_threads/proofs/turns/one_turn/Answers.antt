@@ -20,5 +20,5 @@ returns-in-Ok-clause-counted g c =
 pub returns-in-Ok-clause-turn : goal.returns-in-Ok-clause-turn
 returns-in-Ok-clause-turn g c = λ on.
     takes_turn g.S.EpochStore.makes g.S.EpochStore.view g.S.EpochStore.waits c.args.lock.now.fixed _ c.args.pass c.in-Ok.held.pass c.release.result c.in-Ok.held.value c.value.result.now c.act-after.new.book c.who-core.result
-    c.args.shares.now c.act-after.new.shares c.args.hart.now c.act-after.new.hart c.act-after.result c.pass-passed.result c.in-Ok.ensures.fixed c.in-Ok.ensures.begins c.value.ensures.shows c.who-core.ensures
+    c.args.shares.now c.act-after.new.shares c.args.hart.now c.act-after.new.hart c.act-after.result c.args.passed c.in-Ok.ensures.fixed c.in-Ok.ensures.begins c.value.ensures.shows c.who-core.ensures
     c.release.ensures c.act-after.ensures.takes c.act-after.ensures.shut
