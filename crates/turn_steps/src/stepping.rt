@@ -113,9 +113,12 @@ fn step_shown<S: ShownStore>(
     };
     let answer = step(book, held, place.core, shares)?;
     book.look();
-    let hart = hart_of(held, place.core);
-    match push_step(alloc, text, shown, book, place, &before, &answer, hart) {
-        Ok(()) => Ok(answer),
+    let taken = Taken {
+        answer,
+        hart: hart_of(held, place.core),
+    };
+    match push_step(alloc, text, shown, book, place, &before, &taken) {
+        Ok(()) => Ok(taken.answer),
         Err(AllocError) => Err(TurnFault::NoMemory),
     }
 }
@@ -128,7 +131,14 @@ struct Before {
     hart: Option<Hart>,
 }
 
-/// Adds the text of a turn, after which the book is this, and the core's hart.
+/// What a turn was answered, and the hart that its core has in hand then.
+#[derive(Drop)]
+struct Taken {
+    answer: Answer,
+    hart: Option<Hart>,
+}
+
+/// Adds the text of a turn, after which the book is this.
 fn push_step<S: ShownStore>(
     alloc: Global,
     text: &mut Vec<u8>,
@@ -136,25 +146,24 @@ fn push_step<S: ShownStore>(
     book: &Book<S>,
     place: Place,
     before: &Before,
-    answer: &Answer,
-    hart: Option<Hart>,
+    taken: &Taken,
 ) -> Result<(), AllocError>
     requires cores { (place.core < place.cores) × (place.cores ≤ 16) × ((S.view book.now.store).shape.cores ≡ place.cores) }
     requires entries { before.now.entries ≤ length book.now.history }
     requires fits { telling.Fits S.view S.fits shown.old.store shown.old.memory book.now.store }
     ensures text { (old : BookView S) (added : List HistoryEntry) → telling.Follows S.view S.shows shown.old.store shown.old.memory place.core old book.now added
         → telling.IsBefore S.view before.now.entries before.now.attempts old → old.cores ≡ place.cores
-        → OnOk result (text.new.items ≡ text.old.items ++ spec.turn_text S.view S.changes place.number place.core answer.now added before.now.hart hart old book.now) }
+        → OnOk result (text.new.items ≡ text.old.items ++ spec.turn_text S.view S.changes place.number place.core taken.now.answer added before.now.hart taken.now.hart old book.now) }
     ensures shown { (old : BookView S) (added : List HistoryEntry) → telling.Follows S.view S.shows shown.old.store shown.old.memory place.core old book.now added
         → telling.IsBefore S.view before.now.entries before.now.attempts old
         → OnOk result (telling.IsCurrent S.view S.fits S.shows shown.new.store shown.new.memory book.now) }
 {
     let added = &book.history()[before.entries..];
-    push_turn(text, place.number, place.core, answer)?;
+    push_turn(text, place.number, place.core, &taken.answer)?;
     push_entries(text, added)?;
     let attempts = attempts_of(book.store(), place.cores);
     push_attempt_changes(alloc, text, place.cores, &before.attempts, &attempts)?;
-    push_hart_change(alloc, text, place.core, before.hart, hart)?;
+    push_hart_change(alloc, text, place.core, before.hart, taken.hart)?;
     shown.push_changes(alloc, text, book.store(), place.core, added)?;
     Ok(())
 }

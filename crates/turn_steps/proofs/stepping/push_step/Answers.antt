@@ -22,8 +22,8 @@ returns-clause-text g c = λ old added follows before cores.
     let five = subst (λ st. c.push_changes.new.text.items ≡ c.push_hart_change.new.text.items ++ changes (view st).shape.cores old.store st
     ++ at_changes (view old.store).committed (view st).committed (row_count (view old.store))) c.store-2.ensures (c.in_ok-push_changes.ensures.text old.store leads) in
     in_turn c.args.text.now.items c.push_turn.new.text.items c.push_entries.new.text.items c.push_attempt_changes.new.text.items c.push_hart_change.new.text.items c.push_changes.new.text.items
-    (turn_line c.args.place.number c.args.place.core c.args.answer.now) (entries_text added) (attempt_changes (view old.store).attempt (view now.store).attempt old.cores)
-    (changed (hart_line c.args.place.core c.args.before.now.hart) (hart_line c.args.place.core c.args.hart)) (changes old.cores old.store now.store)
+    (turn_line c.args.place.number c.args.place.core c.args.taken.now.answer) (entries_text added) (attempt_changes (view old.store).attempt (view now.store).attempt old.cores)
+    (changed (hart_line c.args.place.core c.args.before.now.hart) (hart_line c.args.place.core c.args.taken.now.hart)) (changes old.cores old.store now.store)
     (at_changes (view old.store).committed (view now.store).committed (row_count (view old.store)))
     c.in_ok-push_turn.ensures
     (c.in_ok-push_entries.ensures ∙ ap (λ es. c.push_turn.new.text.items ++ entries_text es) rest)

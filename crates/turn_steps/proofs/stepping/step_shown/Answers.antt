@@ -19,11 +19,11 @@ returns-in-Ok-clause-told g c =
     let so = follows view g.S.EpochStore.waits g.S.ShownStore.fits g.S.ShownStore.shows c.args.shown.now.store c.args.shown.now.memory old new c.args.shares.now c.step.new.shares core hart
     (Ok c.in_ok-answer.answer) c.look.ensures c.look-2.ensures grows c.requires.shown c.in_ok-answer.ensures.turned in
     let before : IsBefore view c.len.result c.attempts_of.result old = record { entries_are = c.len.ensures; attempts_are = λ k. c.attempts_of.ensures k ∙ ap (λ st. (view st).attempt k) c.store.ensures } in
-    let here : c.hart_of-hart.result ≡ after = c.hart_of-hart.ensures ∙ (c.in_ok-answer.ensures.harts core ∙ held_here (harts_of c.args.held.now) core after) in (
+    let here : c.hart_of-2.result ≡ after = c.hart_of-2.ensures ∙ (c.in_ok-answer.ensures.harts core ∙ held_here (harts_of c.args.held.now) core after) in (
       turn_text view changes c.args.place.number core c.in_ok-answer.answer grows.entries hart after old new,
       record { entries = grows.entries; history = grows.history; text_is = refl },
       c.in-Ok.ensures.text old grows.entries so before c.requires.place.1
-          ∙ (ap (λ h. c.args.text.now.items ++ turn_text view changes c.args.place.number core c.in_ok-answer.answer grows.entries h c.hart_of-hart.result old new) c.hart_of.ensures
+          ∙ (ap (λ h. c.args.text.now.items ++ turn_text view changes c.args.place.number core c.in_ok-answer.answer grows.entries h c.hart_of-2.result old new) c.hart_of.ensures
           ∙ ap (λ h. c.args.text.now.items ++ turn_text view changes c.args.place.number core c.in_ok-answer.answer grows.entries hart h old new) here),
     )
 
