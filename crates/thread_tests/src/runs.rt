@@ -16,20 +16,26 @@ use std::test::Fail;
 use std::thread::Threads;
 use violations::{EpochStore, PlainStore, Waiting};
 
-/// A run that ends so, with these words from 64 on.
+/// A loop by the text of its image, and how many cores there are; how it ends, and the words from 64 on then.
+#[derive(Clone, Copy)]
+struct Known<'a> {
+    text: &'a str,
+    cores: u32,
+    end: End,
+    words: &'a str,
+}
+
+/// A run that ends so.
 fn ends<S: EpochStore, G: Gate, R: Abort + Threads + Wait + Sync>(
     rt: &R,
     alloc: Global,
-    text: &str,
-    cores: u32,
+    known: &Known,
     room: u32,
     gate: &G,
-    end: End,
-    words: &str,
 ) -> Result<(), Fail> {
-    let image = image_of(alloc, text.as_bytes())?;
-    match run::<S, G, R>(rt, alloc, &image, cores, room, gate) {
-        Ok(run) => has_ended(rt, alloc, &run, &image, cores, end, words),
+    let image = image_of(alloc, known.text.as_bytes())?;
+    match run::<S, G, R>(rt, alloc, &image, known.cores, room, gate) {
+        Ok(run) => has_ended(rt, alloc, &run, &image, known),
         Err(run) => Err(run.fault.name().into()),
     }
 }
@@ -52,15 +58,14 @@ fn has_ended<S: EpochStore>(
     alloc: Global,
     run: &Finished<S>,
     image: &Image,
-    cores: u32,
-    end: End,
-    words: &str,
+    known: &Known,
 ) -> Result<(), Fail> {
-    assert!(rt; run.end == end);
+    let words = known.words;
+    assert!(rt; run.end == known.end);
     assert!(rt; run.totals == run.counted && run.totals == run.book.totals());
     assert!(rt; has_words(&run.book, words), "{words}");
-    look(rt, alloc, &run.book, image, cores)?;
-    is_in_order(rt, alloc, &run.book, image, end)
+    look(rt, alloc, &run.book, image, known.cores)?;
+    is_in_order(rt, alloc, &run.book, image, known.end)
 }
 
 /// Each loop with its image, how many cores there are, how it ends, and the words from 64 on then.
@@ -82,18 +87,13 @@ fn ends_as<S: EpochStore, R: Abort + Threads + Wait + Sync>(
     alloc: Global,
     line: &str,
 ) -> Result<(), Fail> {
-    let text = text_named(cell(line, 0));
-    let end = end_of(cell(line, 2));
-    ends::<S, Open, R>(
-        rt,
-        alloc,
-        text,
-        number(cell(line, 1), 0),
-        4096,
-        &Open,
-        end,
-        cell(line, 3),
-    )
+    let known = Known {
+        text: text_named(cell(line, 0)),
+        cores: number(cell(line, 1), 0),
+        end: end_of(cell(line, 2)),
+        words: cell(line, 3),
+    };
+    ends::<S, Open, R>(rt, alloc, &known, 4096, &Open)
 }
 
 #[test]
@@ -115,8 +115,13 @@ fn meet<S: EpochStore, R: Abort + Threads + Wait + Sync>(
     cores: u32,
 ) -> Result<(), Fail> {
     let gate = Meeting::new(cores);
-    let end = End::Done(cores);
-    ends::<S, Meeting, R>(rt, alloc, text, cores, 256, &gate, end, "0 1")?;
+    let known = Known {
+        text,
+        cores,
+        end: End::Done(cores),
+        words: "0 1",
+    };
+    ends::<S, Meeting, R>(rt, alloc, &known, 256, &gate)?;
     assert!(rt; gate.stores.load(Ordering::SeqCst) == cores as u64);
     Ok(())
 }
@@ -181,14 +186,11 @@ fn a_core_that_waits_for_a_turn_of_another_is_not_waited_for(rt: HostRuntime) ->
     let gate = After {
         turns: AtomicU64::new(0),
     };
-    ends::<PlainStore, After, HostRuntime>(
-        &rt,
-        rt.alloc(),
-        WORDS_OF_TWO,
-        2,
-        64,
-        &gate,
-        End::Done(2),
-        "0 1",
-    )
+    let known = Known {
+        text: WORDS_OF_TWO,
+        cores: 2,
+        end: End::Done(2),
+        words: "0 1",
+    };
+    ends::<PlainStore, After, HostRuntime>(&rt, rt.alloc(), &known, 64, &gate)
 }
