@@ -159,22 +159,17 @@ def check_loop(programs: Programs, name: str, text: str, cores: int, deps: list[
 def check_examples(programs: Programs) -> Iterator[Row]:
     deps: dict[str, list[str]] = {}
     leasts: dict[str, dict[str, int | None]] = {}
-    coarser: set[tuple[str, str]] = set()
     for row in (ROOT / "tests/depends.txt").read_text().splitlines():
         name, kind, *rest = row.split()
         if kind == "dep":
             deps.setdefault(name, []).append(row.partition(" ")[2])
         elif name != "#" and kind in STORES:
             leasts.setdefault(name, {})[kind] = None if rest == ["never"] else int(rest[1])
-            coarser |= {(name, kind)} if rest[0] == "coarser" else set()
     files = {path.stem: path.read_text() for path in (ROOT / "examples").glob("*.image")}
     yield ("the examples of depends.txt", sorted(leasts), sorted(files))
     for name in sorted(leasts):
         cores = 16 if "\nversion 2\n" in f"\n{files[name]}" else 8
         yield from check_loop(programs, name, files[name], cores, deps.get(name, []), leasts[name], [1, 2])
-    for name, store in sorted(coarser):
-        print(f"known: {name} over {store} is told as a conflict on {leasts[name][store]} cores, where another program "
-              "finds none: the definition is coarser than the machine")
 
 
 @comparing

@@ -193,14 +193,22 @@ def lines_met(loop: Loop, cores: int) -> Iterator[Met]:
                     yield Met(later, load.pc, earlier, store.pc)
 
 
+def lines_of(path: Path, length: int) -> set[int]:
+    """The lines that an epoch touches on its path."""
+    return {a // length for access in path.accesses for a in access.bytes}
+
+
 def overflows(loop: Loop, cores: int) -> Iterator[tuple[int, int]]:
     """(later epoch, earlier epoch) where the later one stores in a line that the earlier one touches, and in as many
-    others as its buffer takes."""
+    others as its buffer takes, each of which an epoch beside it touches."""
     length, room = LINE_LENGTH[loop.image.version], BUFFER_LINES[loop.image.version]
+    beside: dict[int, set[int]] = {}
+    for earlier, later, first, second in loop.beside(cores):
+        beside.setdefault(earlier, set()).update(lines_of(second, length))
+        beside.setdefault(later, set()).update(lines_of(first, length))
     for earlier, later, first, second in loop.beside(cores):
         stored = {a // length for a in second.own}
-        touched = {a // length for access in first.accesses for a in access.bytes}
-        if len(stored) > room and stored & touched:
+        if len(stored & beside[later]) > room and stored & lines_of(first, length):
             yield later, earlier
 
 

@@ -2,10 +2,11 @@
 use Rattle.std.proofs.Common.{◌≡◌, ℕ, ◌<◌, ◌≤◌, slice_index, sym, inl, inr, arith}
 use Rattle.rv32_image.specs.Image.{LoadedImage, IsImage}
 use Rattle.dependences.specs.Conflict.{AreBeside, Conflict, IsInOrder, LineConflict, Overflow, PathReads, first_beside, path_memory}
+use Rattle.dependences.specs.Shared.{SharedOverflow}
 use Rattle.dependences.specs.Laws.{IsAlike}
 use Rattle.dependences.proofs.Alike.{alike}
 use Rattle.dependences.proofs.InOrder.{all_in_order, all_up, alike_all, low_most}
-use Rattle.dependences.proofs.Showing.{earlier_within, line_of, reads_so, stores_in_so, stores_so, touches_so, turned}
+use Rattle.dependences.proofs.Showing.{earlier_within, line_of, reads_so, shared_overflow_so, stores_in_so, stores_so, touches_so, turned}
 use Rattle.dependences.proofs.Starting.{IsWritten}
 
 -- ---- both windows of an epoch
@@ -114,3 +115,8 @@ module _ (image : LoadedImage) (fewer more : ℕ) (is : IsImage image) (least : 
         full = x.full;
         each = λ k d below. let one = x.each k d below in (one.0, stores_in_so image x.later _ _ later _ one.1);
       })
+
+  pub shared_on_fewer : (Conflict image more → ⊥) → (SharedOverflow image more → ⊥) → SharedOverflow image fewer → ⊥
+  shared_on_fewer bytes free x =
+      free (shared_overflow_so image fewer more (path_memory image fewer) (path_memory image more) beside_on_more
+      (λ earlier later beside. record { first = earlier_path earlier later bytes beside; second = later_path earlier later bytes beside }) x)

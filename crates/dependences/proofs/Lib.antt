@@ -30,6 +30,8 @@ pub mod Joining
 pub mod Noting
 -- Lines of the caches: who stored in them, and who reads in them.
 pub mod Lining
+mod Counting
+mod Sharing
 pub mod Buffering
 pub mod Caching
 pub mod Words

@@ -1,11 +1,12 @@
 -- What one run in order shows: where it shows no conflict over bytes, the paths of all epochs do what it shows.
-use Rattle.std.proofs.Common.{◌≡◌, ◌⊎◌, ℕ, zero, suc, ◌+◌, ◌<◌, ◌≤◌, List, length, slice_index, refl, sym, ap, subst, ◌∙◌, inl, inr, arith, add-one, Option, Some, None}
+use Rattle.std.proofs.Common.{◌≡◌, ◌≢◌, ◌⊎◌, ℕ, zero, suc, ◌+◌, ◌<◌, ◌≤◌, List, length, get_or, slice_index, refl, sym, ap, subst, ◌∙◌, inl, inr, arith, add-one, Option, Some, None}
 use Rattle.rv32_image.specs.Image.{LoadedImage, IsImage}
 use Rattle.rv32_exec.specs.declared.sequential.End.{End}
 use Rattle.rv32_exec.specs.declared.sequential.End.TheVariants.{Done, Exit, Fault}
 use Rattle.rv32_exec.specs.Sequential.{first_epochs}
 use Rattle.dependences.specs.Paths.{LoadsAt, ReadsOutside, Stores, StoresAt, Touches}
-use Rattle.dependences.specs.Conflict.{AreBeside, Conflict, ConflictInOrder, ConflictOver, IsInOrder, LineConflict, LineConflictInOrder, LineConflictOver, Overflow, OverflowInOrder, StoresIn, first_beside, memory_before, memory_by, path_memory, run_memory}
+use Rattle.dependences.specs.Conflict.{AreBeside, Conflict, ConflictInOrder, ConflictOver, IsInOrder, LineConflict, LineConflictInOrder, LineConflictOver, Overflow, OverflowInOrder, OverflowOver, StoresIn, first_beside, memory_before, memory_by, path_memory, run_memory}
+use Rattle.dependences.specs.Shared.{IsShared, RunBeside, SharedOverflow, SharedOverflowInOrder, SharedOverflowOver, TouchesIn}
 use Rattle.dependences.specs.Laws.{IsAlike}
 use Rattle.dependences.specs.Nearest.{Depends, IsFar, IsNearest}
 use Rattle.dependences.proofs.Alike.{alike}
@@ -79,6 +80,62 @@ module _ (image : LoadedImage) (epoch : ℕ) (first second : List ℕ) (same : I
 
   pub stores_in_so : (line : ℕ) → StoresIn image epoch first line → StoresIn image epoch second line
   stores_in_so line is = record { at = is.at; in_line = is.in_line; stores = stores_so is.at is.stores }
+
+  pub touches_in_so : (line : ℕ) → TouchesIn image epoch first line → TouchesIn image epoch second line
+  touches_in_so line is = record { at = is.at; in_line = is.in_line; touches = touches_so is.at is.touches }
+
+-- what epochs beside each other do over two memories
+pub record AreAlike (image : LoadedImage) (memory memory' : ℕ → List ℕ) (earlier later : ℕ) : Type 0 where
+  pub first : IsAlike image earlier (memory earlier) (memory' earlier)
+  pub second : IsAlike image later (memory later) (memory' later)
+
+-- an overflow over one memory is one over another, and on as many cores or more, where epochs beside each other do the same over both
+module _ (image : LoadedImage) (cores cores' : ℕ) (memory memory' : ℕ → List ℕ)
+    (beside : (earlier later : ℕ) → AreBeside image cores earlier later → AreBeside image cores' earlier later)
+    (alike : (earlier later : ℕ) → AreBeside image cores earlier later → AreAlike image memory memory' earlier later) where
+  shared_line : (epoch line : ℕ) → IsShared image cores memory epoch line → IsShared image cores' memory' epoch line
+  shared_line epoch line x = record { other = x.other; beside = either_beside x.beside; touches = touches_in_so image x.other _ _ (by_beside x.beside) line x.touches }
+    where
+      either_beside : RunBeside image cores x.other epoch → RunBeside image cores' x.other epoch
+      either_beside (inl b) = inl (beside x.other epoch b)
+      either_beside (inr b) = inr (beside epoch x.other b)
+
+      by_beside : RunBeside image cores x.other epoch → IsAlike image x.other (memory x.other) (memory' x.other)
+      by_beside (inl b) = (alike x.other epoch b).first
+      by_beside (inr b) = (alike epoch x.other b).second
+
+  pub shared_overflow_so : SharedOverflowOver image cores memory → SharedOverflowOver image cores' memory'
+  shared_overflow_so x =
+      let both = alike x.earlier x.later x.beside in record {
+        earlier = x.earlier;
+        later = x.later;
+        line = x.line;
+        others = x.others;
+        bound = x.bound;
+        beside = beside x.earlier x.later x.beside;
+        touches = touches_in_so image x.earlier _ _ both.first x.line x.touches;
+        stores = stores_in_so image x.later _ _ both.second x.line x.stores;
+        apart = x.apart;
+        full = x.full;
+        each = λ k d below. let one = x.each k d below in (one.0, stores_in_so image x.later _ _ both.second _ one.1, shared_line x.later _ one.2);
+      }
+
+-- a shared overflow is an overflow
+pub overflow_of : (image : LoadedImage) (cores : ℕ) (memory : ℕ → List ℕ) → SharedOverflowOver image cores memory → OverflowOver image cores memory
+overflow_of image cores memory x =
+    let in_line = x.touches.in_line in record {
+      earlier = x.earlier;
+      later = x.later;
+      touched = x.touches.at;
+      others = x.others;
+      lines = x.bound;
+      beside = x.beside;
+      touches = x.touches.touches;
+      stores = subst (λ l. StoresIn image x.later (memory x.later) l) (sym in_line) x.stores;
+      apart = x.apart;
+      full = x.full;
+      each = λ k d below. let one = x.each k d below in (subst (λ l. get_or x.others k d ≢ l) (sym in_line) one.0, one.1);
+    }
 
 -- ---- what is written in order
 
@@ -209,6 +266,14 @@ buffers_shown image cores is bytes free x =
       full = x.full;
       each = λ k d below. let one = x.each k d below in (one.0, stores_in_so image x.later _ _ later _ one.1);
     })
+
+pub shared_shown : (image : LoadedImage) (cores : ℕ) → IsImage image → (ConflictInOrder image cores → ⊥) → (SharedOverflowInOrder image cores → ⊥) → SharedOverflow image cores → ⊥
+shared_shown image cores is bytes free x =
+    free (shared_overflow_so image cores cores (path_memory image cores) (run_memory image cores) (λ earlier later beside. beside)
+    (λ earlier later beside. record {
+      first = path_shown image cores earlier is bytes (earlier_within image cores earlier later beside);
+      second = path_shown image cores later is bytes beside.within;
+    }) x)
 
 -- ---- far dependences
 

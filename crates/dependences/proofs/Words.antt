@@ -1,5 +1,5 @@
 -- The line of an aligned access, and what is noted of it.
-use Rattle.std.proofs.Common.{◌≡◌, ◌≢◌, ℕ, ◌+◌, ◌/◌, ◌%◌, ◌<◌, true, inl, inr, subst, sym, ap, ◌∙◌, slice_index, arith}
+use Rattle.std.proofs.Common.{◌≡◌, ◌≢◌, ℕ, ◌+◌, ◌/◌, ◌%◌, ◌<◌, true, List, inl, inr, subst, sym, ap, ◌∙◌, slice_index, arith}
 use Rattle.memory_bytes.specs.Bytes.{IsWidth}
 use Rattle.rv32_image.specs.Image.{LoadedImage, IsImage}
 use Rattle.rv32_image.specs.Machine.{is_line_length}
@@ -7,15 +7,14 @@ use Rattle.rv32_image.specs.Places.{place}
 use Rattle.rv32_image.proofs.Bounds.{by_length}
 use Rattle.rv32_image.proofs.Places.{place-aligned, place-word}
 use Rattle.spec_history.specs.Conflict.{line_number}
-use Rattle.dependences.specs.KeptLines.{AreLinesNoted, IsLineNoted, LastTwo, Lines, MeetsLine, other_before}
-use Rattle.dependences.specs.KeptTouches.{AreStoredIn, IsStoredIn, Touched}
+use Rattle.dependences.specs.KeptLines.{AreLinesMarked, AreLinesNoted, IsLineNoted, LastTwo, Lines, MeetsLine, other_before}
 
 by_width : (P : ℕ → Type 0) (width : ℕ) → IsWidth width → P 1 → P 2 → P 4 → P width
 by_width P width (inl one) of_1 of_2 of_4 = subst P (sym one) of_1
 by_width P width (inr (inl two)) of_1 of_2 of_4 = subst P (sym two) of_2
 by_width P width (inr (inr four)) of_1 of_2 of_4 = subst P (sym four) of_4
 
-some_wide : (width : ℕ) → IsWidth width → 0 < width
+pub some_wide : (width : ℕ) → IsWidth width → 0 < width
 some_wide width wide = by_width (λ n. 0 < n) width wide (omega arith) (omega arith) (omega arith)
 
 word_in : (n p width i : ℕ) → is_line_length n ≡ true → IsWidth width → p % width ≡ 0 → i < width → (p + i) / n ≡ p / n
@@ -47,13 +46,11 @@ module _ (image : LoadedImage) (is : IsImage image) (address width line : ℕ) (
     other = one.other;
   }
 
-  pub stored_word : (old new : Touched) (epoch first : ℕ) → IsStoredIn old new epoch first line → AreStoredIn image old new epoch first address width
-  stored_word old new epoch first one = record {
-    two = one.two;
-    long = one.long;
-    here = λ i low. ap (slice_index new.stored) (word_line i low) ∙ one.here;
-    others = λ l none. one.others l (not_line l none);
-    counted = one.counted;
+  pub marked_word : (old new : List ℕ) (epoch : ℕ) → slice_index new line ≡ epoch + 1 → ((l : ℕ) → l ≢ line → slice_index new l ≡ slice_index old l)
+      → AreLinesMarked image old new epoch address width
+  marked_word old new epoch here others = record {
+    here = λ i low. ap (slice_index new) (word_line i low) ∙ here;
+    others = λ l none. others l (not_line l none);
   }
 
   pub meets_word : (s : Lines) (epoch first i : ℕ) → i < width → slice_index s.own (address + i) ≢ epoch + 1 → first < other_before s.two epoch line

@@ -3,7 +3,7 @@ use Rattle.std.specs.Prelude.{◌≡◌, ℕ, zero, suc, ◌+◌, ◌-◌, ◌==
 use Rattle.rv32_exec.specs.declared.sequential.End.TheVariants.{Done}
 use Rattle.rv32_exec.specs.declared.stop.Stop.{Stop}
 use Rattle.rv32_exec.specs.declared.stop.Stop.TheVariants.{Load, Store, Ended, Fault}
-use Rattle.rv32_image.specs.Image.{LoadedImage}
+use Rattle.rv32_image.specs.Image.{LoadedImage, IsImage}
 use Rattle.rv32_exec.specs.Hart.{HartState}
 use Rattle.rv32_exec.specs.Sequential.{exits, first_epochs}
 use Rattle.dependences.specs.Paths.{ReadsOutside, Stores}
@@ -64,6 +64,12 @@ pub record AreKept (image : LoadedImage) (epoch : ℕ) (writers : List ℕ) (nea
   pub long : length writers ≡ image.size
   pub writer : (a : ℕ) → IsLastWriter image epoch a (slice_index writers a)
   pub least : IsLeast (DependsBefore image epoch) nearest
+
+-- the epoch is one of the image's, and the memory is as long as the image's
+pub record CanRun (image : LoadedImage) (epoch : ℕ) (memory : List ℕ) : Type 0 where
+  pub limits : IsImage image
+  pub within : epoch < image.epochs
+  pub size : length memory ≡ image.size
 
 -- the epochs before this one are done, and it is kept what they did
 pub record GoesOn (image : LoadedImage) (epoch : ℕ) (memory writers : List ℕ) (nearest : Option ℕ) : Type 0 where

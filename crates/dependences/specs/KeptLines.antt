@@ -1,5 +1,6 @@
 -- What the code keeps of the lines of the caches: who did something in each last, and who stored in each.
-use Rattle.std.specs.Prelude.{◌≡◌, ◌≢◌, ℕ, zero, suc, ◌+◌, ◌==◌, ◌<◌, ◌≤◌, List, length, slice_index, if◌then◌else◌}
+use Rattle.std.specs.Prelude.{◌≡◌, ◌≢◌, ℕ, zero, suc, ◌+◌, ◌%◌, ◌==◌, ◌<◌, ◌≤◌, List, length, set, slice_index, if◌then◌else◌}
+use Rattle.memory_bytes.specs.Bytes.{IsWidth}
 use Rattle.rv32_image.specs.Image.{LoadedImage}
 use Rattle.spec_history.specs.Conflict.{line_number, line_count}
 use Rattle.dependences.specs.Paths.{ReadsOutside}
@@ -29,6 +30,10 @@ pub record Lines : Type 0 where
 abbrev pub other_before : LastTwo → ℕ → ℕ → ℕ
 other_before s epoch line = if slice_index s.last line == epoch + 1 then slice_index s.before line else slice_index s.last line
 
+-- another epoch than the last one has done so in this line now
+abbrev pub followed : LastTwo → ℕ → ℕ → LastTwo
+followed s epoch line = record { last = set s.last line (epoch + 1); before = set s.before line (slice_index s.last line) }
+
 pub record AreLines (image : LoadedImage) (s : LastTwo) : Type 0 where
   pub last : length s.last ≡ line_count image
   pub before : length s.before ≡ line_count image
@@ -55,6 +60,17 @@ pub record AreLinesNoted (image : LoadedImage) (old new : LastTwo) (epoch addres
   pub here : (i : ℕ) → i < width → slice_index new.last (line_number image (address + i)) ≡ epoch + 1
   pub others : (l : ℕ) → ((i : ℕ) → i < width → l ≢ line_number image (address + i)) → slice_index new.last l ≡ slice_index old.last l
   pub other : (l : ℕ) → other_before new epoch l ≡ other_before old epoch l
+
+-- an access of so many bytes at this address is aligned, and within memory
+pub record IsAllowed (image : LoadedImage) (address width : ℕ) : Type 0 where
+  pub wide : IsWidth width
+  pub aligned : address % width ≡ 0
+  pub within : address + width ≤ image.size
+
+-- of a list by lines: those of these bytes have this epoch's number and 1, and the others what they had
+pub record AreLinesMarked (image : LoadedImage) (old new : List ℕ) (epoch address width : ℕ) : Type 0 where
+  pub here : (i : ℕ) → i < width → slice_index new (line_number image (address + i)) ≡ epoch + 1
+  pub others : (l : ℕ) → ((i : ℕ) → i < width → l ≢ line_number image (address + i)) → slice_index new l ≡ slice_index old l
 
 -- an epoch stores these bytes
 pub record AreStored (image : LoadedImage) (old new : Lines) (epoch address width : ℕ) : Type 0 where

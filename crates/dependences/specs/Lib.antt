@@ -1,9 +1,10 @@
 -- Definitions to believe: Paths (an epoch alone, what it stores, and what it reads from outside), Conflict (what can roll back
--- at all), Laws (what the laws take, and what they say), Nearest (how near epochs depend on each other in order) Flow (the loads
--- that depend on earlier epochs) Pairs (the instructions that these
--- join) Stored (where epochs store) and Lengths (how many instructions epochs execute).
+-- at all), Shared (buffers that are too small for lines that others touch), Laws (what the laws take, and what they say), Nearest
+-- (how near epochs depend on each other in order), Flow (the loads that depend on earlier epochs), Pairs (the instructions that these
+-- join), Stored (where epochs store) and Lengths (how many instructions epochs execute).
 pub mod Paths
 pub mod Conflict
+pub mod Shared
 pub mod Laws
 pub mod Nearest
 pub mod Flow

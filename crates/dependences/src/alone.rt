@@ -28,9 +28,7 @@ pub(crate) fn run_between(image: &Image, from: u32, to: u32, memory: &mut [u8])
 
 /// Runs one epoch over memory, which neither faults nor exits.
 fn run_one(image: &Image, epoch: u32, memory: &mut [u8])
-    requires limits { IsImage image.now }
-    requires size { length memory.old ≡ image.now.size }
-    requires within { epoch < image.now.epochs }
+    requires run { spec.CanRun image.now epoch memory.old }
     requires before { first_epochs image.now epoch ≡ record { end = Done epoch; bytes = memory.old } }
     requires order { IsInOrder image.now (epoch + 1) }
     ensures size { length memory.new ≡ image.now.size }
@@ -61,9 +59,7 @@ pub(crate) fn meets_writer(
     memory: &mut [u8],
     writers: &mut [u32],
 ) -> bool
-    requires limits { IsImage image.now }
-    requires within { epoch < image.now.epochs }
-    requires size { length memory.old ≡ image.now.size }
+    requires run { spec.CanRun image.now epoch memory.old }
     requires long { length writers.old ≡ image.now.size }
     ensures found { result ≡ true → spec.MeetsWriter image.now epoch memory.old writers.old first }
     ensures none { result ≡ false → spec.MeetsWriter image.now epoch memory.old writers.old first → ⊥ }

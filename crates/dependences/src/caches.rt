@@ -2,14 +2,17 @@ ghost use Rattle.std.specs.Prelude.{◌≡◌, ℕ, ◌+◌, ◌<◌, ◌≤◌,
 ghost use Rattle.rv32_image.specs.Image.{IsImage};
 ghost use Rattle.rv32_exec.specs.declared.sequential.End.TheVariants.{Done};
 ghost use Rattle.rv32_exec.specs.Sequential.{first_epochs};
-ghost use Rattle.dependences.specs.Conflict.{IsInOrder, LineConflict, Overflow, first_beside, run_memory};
-ghost use Rattle.dependences.specs.Kept.{AreAll, IsNext};
-ghost use Rattle.dependences.specs.KeptLines.{AreLinesKept};
-ghost use Rattle.dependences.specs.KeptTouches as spec;
+ghost use Rattle.dependences.specs.Conflict.{IsInOrder, Overflow, first_beside, run_memory};
+ghost use Rattle.dependences.specs.Shared.{AreApart};
 ghost use Rattle.dependences.specs.Laws.{NeverOverLines};
+ghost use Rattle.dependences.specs.Kept.{AreAll, CanRun, IsNext};
+ghost use Rattle.dependences.specs.KeptLines.{AreLinesKept, MeetsNone};
+ghost use Rattle.dependences.specs.KeptTouches as spec;
 
 use crate::alone::run_between;
+use crate::beside::first_beside;
 use crate::ends::next_runs;
+use crate::epoch::Epoch;
 use crate::lines::Lines;
 use crate::touches::Touches;
 use memory_bytes::{read_number, write_number};
@@ -22,7 +25,8 @@ use std::alloc::Global;
 pub enum CacheConflict {
     /// The earlier one stores in a line in which the later one, this one, reads a byte from outside.
     Line { later: u32 },
-    /// The later one, this one, stores in a line that the earlier one touches, and in as many others as its buffer takes.
+    /// An epoch stores in a line that an earlier one touches, and in as many other shared lines as its buffer takes. The last of those
+    /// that touch these is this one.
     Buffer { later: u32 },
 }
 
@@ -41,12 +45,13 @@ struct RanClear {
 }
 
 /// A conflict over caches of two epochs that so many cores can run beside each other, also past the loop's exit or fault; None
-/// where there is none. Then nor do any two paths conflict, and no schedule of so many cores over caches has a violation.
+/// where there is none. Then nor do any two paths conflict, on so many cores or on fewer; and where no epoch stores in more lines than
+/// its buffer takes, shared or not, no legal history has a violation that is of a kind.
 ///
 /// It runs the loop in order, up to the first conflict. Where that ends early it runs it once more, and each epoch past the end
 /// that the cores can reach over a copy of memory.
 ///
-/// `NoMemory`: there was none for three copies of the image's bytes, a word beside each, and five for each line.
+/// `NoMemory`: there was none for three copies of the image's bytes, a word beside each, five for each line, and one for each epoch.
 pub fn conflict_over_caches(
     alloc: Global,
     image: &Image,
@@ -54,9 +59,8 @@ pub fn conflict_over_caches(
 ) -> Result<Option<CacheConflict>, NoMemory>
     ensures found { IfOk result (λ found. spec.IsFound image.now cores found) }
     ensures none { IfOk result (λ found. found ≡ None → spec.IsNever image.now cores) }
-    ensures lines { IfOk result (λ found. found ≡ None → LineConflict image.now cores → ⊥) }
-    ensures buffers { IfOk result (λ found. found ≡ None → Overflow image.now cores → ⊥) }
-    ensures never { IfOk result (λ found. found ≡ None → (fewer : ℕ) → fewer ≤ cores → NeverOverLines image.now fewer) }
+    ensures apart { IfOk result (λ found. found ≡ None → (fewer : ℕ) → fewer ≤ cores → AreApart image.now fewer) }
+    ensures never { IfOk result (λ found. found ≡ None → (fewer : ℕ) → fewer ≤ cores → (Overflow image.now fewer → ⊥) → NeverOverLines image.now fewer) }
 {
     let bytes = image.bytes();
     if cores < 2 {
@@ -170,7 +174,7 @@ fn search(
 {
     let mut done = 0;
     for later in ran..image.epochs() {
-        let first = later.saturating_sub(cores.saturating_sub(1));
+        let first = first_beside(cores, later);
         if first >= ran {
             return None;
         }
@@ -195,43 +199,41 @@ fn conflict_of(
     lines: &mut Lines,
     touches: &mut Touches,
 ) -> Looked
-    requires limits { IsImage image.now }
-    requires within { epoch < image.now.epochs }
+    requires run { CanRun image.now epoch memory.old }
     requires starts { IsInOrder image.now (first_beside cores epoch) }
-    requires size { length memory.old ≡ image.now.size }
     requires memory { memory.old ≡ run_memory image.now cores epoch }
     requires lines { AreLinesKept image.now cores epoch lines.old }
     requires touches { spec.AreTouchesKept image.now cores epoch touches.old }
     ensures found { spec.IsFound image.now cores result.found }
-    ensures none { result.found ≡ None → spec.IsClear image.now cores epoch }
+    ensures none { result.found ≡ None → MeetsNone image.now cores epoch }
     ensures lines { result.found ≡ None → AreLinesKept image.now cores (epoch + 1) lines.new }
     ensures touches { result.found ≡ None → spec.AreTouchesKept image.now cores (epoch + 1) touches.new }
     ensures next { result.found ≡ None → first_epochs image.now epoch ≡ record { end = Done epoch; bytes = memory.old } → IsNext image.now (epoch + 1) memory.new result.goes_on }
 {
-    let first = epoch.saturating_sub(cores.saturating_sub(1));
+    let at = Epoch::of(epoch);
+    let first = first_beside(cores, epoch);
     let mut arrived = advance(image, start(image, epoch));
-    touches.begin();
     'accesses: loop {
         match arrived.at() {
             Stop::Load { addr, width, .. } => {
-                if lines.meets(image, epoch, first, addr, width) {
+                if lines.meets(image, at, first, addr, width) {
                     return Looked {
                         found: Some(CacheConflict::Line { later: epoch }),
                         goes_on: false,
                     };
                 }
-                touches.touch(image, epoch, addr, width);
+                touches.touch(image, cores, epoch, addr);
                 arrived.advance_past_load(image, read_number(memory, addr as usize, width));
             }
             Stop::Store { addr, width, value } => {
                 write_number(memory, addr as usize, width, value);
-                lines.store(image, epoch, addr, width);
-                touches.touch(image, epoch, addr, width);
-                touches.store(image, epoch, first, addr, width);
+                lines.store(image, at, addr, width);
+                touches.touch(image, cores, epoch, addr);
+                touches.store(image, cores, epoch, addr);
                 arrived.advance_past_store(image);
             }
             Stop::Ended | Stop::Fault { .. } => {
-                if touches.overflows(image) {
+                if touches.overflows() {
                     return Looked {
                         found: Some(CacheConflict::Buffer { later: epoch }),
                         goes_on: false,

@@ -3,12 +3,13 @@ ghost use Rattle.rv32_image.specs.Image.{IsImage};
 ghost use Rattle.rv32_exec.specs.declared.sequential.End.TheVariants.{Done};
 ghost use Rattle.rv32_exec.specs.Sequential.{first_epochs};
 ghost use Rattle.dependences.specs.Flow.{AreDependences};
-ghost use Rattle.dependences.specs.Kept.{AreKept, IsNext, load_behind};
+ghost use Rattle.dependences.specs.Kept.{AreKept, CanRun, IsNext, load_behind};
 ghost use Rattle.dependences.specs.KeptStores as spec;
 ghost use Rattle.dependences.specs.Lengths.{AreLengths, Lasts};
 ghost use Rattle.dependences.specs.Nearest.{IsNearest};
 
 use crate::ends::next_runs;
+use crate::epoch::Epoch;
 use crate::nearest::{mark, nearer_of};
 use memory_bytes::{read_number, write_number};
 use rv32_exec::{Hart, NoMemory, Stop, advance, start};
@@ -149,9 +150,7 @@ fn follow(
     found: &mut Vec<Dependence>,
     nearest: Option<u32>,
 ) -> Result<Ran, NoMemory>
-    requires limits { IsImage image.now }
-    requires size { length memory.old ≡ image.now.size }
-    requires epoch { epoch < image.now.epochs }
+    requires run { CanRun image.now epoch memory.old }
     requires before { first_epochs image.now epoch ≡ record { end = Done epoch; bytes = memory.old } }
     requires kept { spec.AreStoresKept image.now epoch stores.old found.old.items }
     requires writers { AreKept image.now epoch stores.old.writers nearest }
@@ -160,19 +159,20 @@ fn follow(
     ensures lasts { IfOk result (λ ran. Lasts image.now epoch ran.length) }
     ensures next { IfOk result (λ ran. IsNext image.now (epoch + 1) memory.new ran.goes_on) }
 {
+    let at = Epoch::of(epoch);
     let mut nearest = nearest;
     let mut arrived = advance(image, start(image, epoch));
     'accesses: loop {
         let now = arrived.now();
         match arrived.at() {
             Stop::Load { addr, width, .. } => {
-                nearest = stores.nearest_with(epoch, addr, width, nearest);
+                nearest = stores.nearest_with(at, addr, width, nearest);
                 note_load(stores, epoch, &now, addr, width, found)?;
                 arrived.advance_past_load(image, read_number(memory, addr as usize, width));
             }
             Stop::Store { addr, width, value } => {
                 write_number(memory, addr as usize, width, value);
-                stores.mark(addr, width, epoch + 1, &now);
+                stores.mark(addr, width, at.note(), &now);
                 arrived.advance_past_store(image);
             }
             Stop::Ended | Stop::Fault { .. } => {
@@ -260,10 +260,9 @@ impl LastStores {
     }
 
     /// The nearest of what was found, and of the epochs that last stored the bytes of a load.
-    fn nearest_with(&self, epoch: u32, addr: u32, width: u32, nearest: Option<u32>) -> Option<u32>
+    fn nearest_with(&self, epoch: Epoch, addr: u32, width: u32, nearest: Option<u32>) -> Option<u32>
         requires small { length self.now.writers < 2 ^ 32 }
         requires within { addr + width ≤ length self.now.writers }
-        requires epoch { epoch < 2 ^ 16 }
         requires earlier { (a : ℕ) → slice_index self.now.writers a ≤ epoch + 1 }
         ensures { result ≡ load_behind self.now.writers epoch addr width nearest }
     {

@@ -4,6 +4,7 @@ ghost use Rattle.rv32_image.specs.Image.{IsImage};
 ghost use Rattle.spec_history.specs.Conflict.{line_number, line_count};
 ghost use Rattle.dependences.specs.KeptLines as spec;
 
+use crate::epoch::Epoch;
 use rv32_exec::NoMemory;
 use rv32_image::Image;
 use std::alloc::Global;
@@ -14,6 +15,7 @@ pub(crate) fn line_of(image: &Image, addr: u32) -> u32
     requires { addr ≤ image.now.size }
     ensures line { result ≡ line_number image.now addr }
     ensures inside { addr < image.now.size → result < line_count image.now }
+    ensures limits { IsImage image.now }
 {
     line_at(image.place(addr), image.machine().line_length)
 }
@@ -61,14 +63,13 @@ impl LastTwo {
     }
 
     /// The last epoch that did so in a line, and 1, this one aside.
-    pub(crate) fn other_before(&self, epoch: u32, line: u32) -> u32
-        requires epoch { epoch < 2 ^ 16 }
+    pub(crate) fn other_before(&self, epoch: Epoch, line: u32) -> u32
         requires last { line < length self.now.last }
         requires before { line < length self.now.before }
         ensures { result ≡ spec.other_before self.now epoch line }
     {
         let last = self.last[line as usize];
-        if last == epoch + 1 {
+        if last == epoch.note() {
             self.before[line as usize]
         } else {
             last
@@ -76,12 +77,8 @@ impl LastTwo {
     }
 
     /// Notes that this epoch does so in the line of these bytes, which an aligned access has.
-    pub(crate) fn note_line(&mut self, image: &Image, epoch: u32, addr: u32, width: u32)
-        requires limits { IsImage image.now }
-        requires epoch { epoch < 2 ^ 16 }
-        requires wide { IsWidth width }
-        requires aligned { addr % width ≡ 0 }
-        requires within { addr + width ≤ image.now.size }
+    pub(crate) fn note_line(&mut self, image: &Image, epoch: Epoch, addr: u32, width: u32)
+        requires access { spec.IsAllowed image.now addr width }
         requires lines { spec.AreLines image.now self.old }
         ensures { spec.AreLinesNoted image.now self.old self.new epoch addr width }
     {
@@ -89,18 +86,44 @@ impl LastTwo {
         self.note(epoch, line);
     }
 
+    /// The last epoch that did so in this line, and 1.
+    pub(crate) fn last_in(&self, line: u32) -> u32
+        requires { line < length self.now.last }
+        ensures { result ≡ slice_index self.now.last line }
+    {
+        self.last[line as usize]
+    }
+
+    /// The last before that one, and 1.
+    pub(crate) fn before_in(&self, line: u32) -> u32
+        requires { line < length self.now.before }
+        ensures { result ≡ slice_index self.now.before line }
+    {
+        self.before[line as usize]
+    }
+
+    /// Notes that this epoch, another than the last one that did so, does so in this line.
+    pub(crate) fn follow(&mut self, epoch: Epoch, line: u32)
+        requires last { line < length self.old.last }
+        requires before { line < length self.old.before }
+        ensures { self.new ≡ spec.followed self.old epoch line }
+    {
+        let at = line as usize;
+        self.before[at] = self.last[at];
+        self.last[at] = epoch.note();
+    }
+
     /// Notes that this epoch does so in this line.
-    fn note(&mut self, epoch: u32, line: u32)
-        requires epoch { epoch < 2 ^ 16 }
+    fn note(&mut self, epoch: Epoch, line: u32)
         requires last { line < length self.old.last }
         requires before { line < length self.old.before }
         ensures { spec.IsLineNoted self.old self.new epoch line }
     {
         let at = line as usize;
         let last = self.last[at];
-        if last != epoch + 1 {
+        if last != epoch.note() {
             self.before[at] = last;
-            self.last[at] = epoch + 1;
+            self.last[at] = epoch.note();
         }
     }
 }

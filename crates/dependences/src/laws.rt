@@ -7,6 +7,7 @@ ghost use Rattle.spec_history.specs.FlatState.{FlatState};
 ghost use Rattle.spec_history.specs.Replay.{replay};
 ghost use Rattle.spec_history.specs.Conflict.{AreKnown};
 ghost use Rattle.dependences.specs.Conflict.{Conflict, ConflictInOrder, IsInOrder, LineConflict, LineConflictInOrder, Overflow, OverflowInOrder, memory_before, path_memory};
+ghost use Rattle.dependences.specs.Shared.{SharedOverflow, SharedOverflowInOrder};
 ghost use Rattle.dependences.specs.Nearest.{IsFar, IsNearest};
 ghost use Rattle.homefree.specs.Caused.{MeetInBytes};
 ghost use Rattle.homefree.specs.Ending.{NoneStartsAfterCancel};
@@ -23,19 +24,27 @@ pub fn without_conflict_paths_are_in_order()
 {}
 
 /// One run in order, with the epochs past its end alone, shows whether there are conflicts: where it shows none, there is none
-/// on the paths. So over bytes, over lines, and, where it shows no conflict over bytes, of buffers.
+/// on the paths. So over bytes, over lines, and, where it shows no conflict over bytes, of buffers, also of those that take what is
+/// shared alone.
 pub fn one_run_shows_conflicts()
     ensures bytes { (image : LoadedImage) (cores : ℕ) → IsImage image → (ConflictInOrder image cores → ⊥) → Conflict image cores → ⊥ }
     ensures lines { (image : LoadedImage) (cores : ℕ) → IsImage image → (LineConflictInOrder image cores → ⊥) → LineConflict image cores → ⊥ }
     ensures buffers { (image : LoadedImage) (cores : ℕ) → IsImage image → (ConflictInOrder image cores → ⊥) → (OverflowInOrder image cores → ⊥) → Overflow image cores → ⊥ }
+    ensures shared { (image : LoadedImage) (cores : ℕ) → IsImage image → (ConflictInOrder image cores → ⊥) → (SharedOverflowInOrder image cores → ⊥) → SharedOverflow image cores → ⊥ }
 {}
 
 /// From fewer cores to more a conflict stays one: where no two epochs conflict on so many cores, none do on fewer. So it is over
-/// bytes, over lines, and, where none conflict over bytes, of buffers.
+/// bytes, over lines, and, where none conflict over bytes, of buffers, also of those that take what is shared alone.
 pub fn fewer_cores_conflict_no_more()
     ensures bytes { (image : LoadedImage) (fewer more : ℕ) → IsImage image → fewer ≤ more → (Conflict image more → ⊥) → Conflict image fewer → ⊥ }
     ensures lines { (image : LoadedImage) (fewer more : ℕ) → IsImage image → fewer ≤ more → (LineConflict image more → ⊥) → LineConflict image fewer → ⊥ }
     ensures buffers { (image : LoadedImage) (fewer more : ℕ) → IsImage image → fewer ≤ more → (Conflict image more → ⊥) → (Overflow image more → ⊥) → Overflow image fewer → ⊥ }
+    ensures shared { (image : LoadedImage) (fewer more : ℕ) → IsImage image → fewer ≤ more → (Conflict image more → ⊥) → (SharedOverflow image more → ⊥) → SharedOverflow image fewer → ⊥ }
+{}
+
+/// A buffer that is too small for what is shared is too small for all that is stored, which is the coarser.
+pub fn shared_overflows_are_overflows()
+    ensures { (image : LoadedImage) (cores : ℕ) → SharedOverflow image cores → Overflow image cores }
 {}
 
 /// Where all epochs of a loop run in order, and those that depend on each other are as far apart as there are cores, no two

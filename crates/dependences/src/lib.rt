@@ -2,9 +2,11 @@
 #![tactic(auto)]
 
 mod alone;
+mod beside;
 mod caches;
 mod conflict;
 mod ends;
+mod epoch;
 mod flow;
 mod last_two;
 pub mod laws;

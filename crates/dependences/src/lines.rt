@@ -3,6 +3,7 @@ ghost use Rattle.memory_bytes.specs.Bytes.{IsWidth};
 ghost use Rattle.rv32_image.specs.Image.{IsImage};
 ghost use Rattle.dependences.specs.KeptLines as spec;
 
+use crate::epoch::Epoch;
 use crate::last_two::{LastTwo, line_of};
 use crate::nearest::mark;
 use rv32_exec::NoMemory;
@@ -37,12 +38,15 @@ impl Lines {
     }
 
     /// Whether one of these bytes, which this epoch has not stored, lies in a line in which an epoch from `first` on has.
-    pub(crate) fn meets(&self, image: &Image, epoch: u32, first: u32, addr: u32, width: u32) -> bool
-        requires limits { IsImage image.now }
-        requires epoch { epoch < 2 ^ 16 }
-        requires wide { IsWidth width }
-        requires aligned { addr % width ≡ 0 }
-        requires within { addr + width ≤ image.now.size }
+    pub(crate) fn meets(
+        &self,
+        image: &Image,
+        epoch: Epoch,
+        first: u32,
+        addr: u32,
+        width: u32,
+    ) -> bool
+        requires access { spec.IsAllowed image.now addr width }
         requires own { length self.now.own ≡ image.now.size }
         requires lines { spec.AreLines image.now self.now.two }
         ensures found { result ≡ true → spec.MeetsLine image.now self.now epoch first addr width }
@@ -53,7 +57,7 @@ impl Lines {
             return false;
         }
         for i in 0..width {
-            if self.own[(addr + i) as usize] != epoch + 1 {
+            if self.own[(addr + i) as usize] != epoch.note() {
                 return true;
             }
         }
@@ -61,17 +65,14 @@ impl Lines {
     }
 
     /// Notes that this epoch stores these bytes.
-    pub(crate) fn store(&mut self, image: &Image, epoch: u32, addr: u32, width: u32)
+    pub(crate) fn store(&mut self, image: &Image, epoch: Epoch, addr: u32, width: u32)
         requires limits { IsImage image.now }
-        requires epoch { epoch < 2 ^ 16 }
-        requires wide { IsWidth width }
-        requires aligned { addr % width ≡ 0 }
-        requires within { addr + width ≤ image.now.size }
+        requires access { spec.IsAllowed image.now addr width }
         requires own { length self.old.own ≡ image.now.size }
         requires lines { spec.AreLines image.now self.old.two }
         ensures { spec.AreStored image.now self.old self.new epoch addr width }
     {
-        mark(self.own.as_mut_slice(), addr, width, epoch + 1);
+        mark(self.own.as_mut_slice(), addr, width, epoch.note());
         self.two.note_line(image, epoch, addr, width);
     }
 }

@@ -6,6 +6,7 @@ ghost use Rattle.dependences.specs.Conflict.{IsInOrder};
 ghost use Rattle.dependences.specs.Nearest.{IsNearest};
 ghost use Rattle.dependences.specs.Kept as spec;
 
+use crate::epoch::Epoch;
 use memory_bytes::{read_number, write_number};
 use rv32_exec::{NoMemory, Stop, advance, loaded, start, stored};
 use rv32_image::Image;
@@ -71,27 +72,26 @@ fn follow(
     writers: &mut [u32],
     nearest: Option<u32>,
 ) -> Followed
-    requires limits { IsImage image.now }
-    requires size { length memory.old ≡ image.now.size }
-    requires epoch { epoch < image.now.epochs }
+    requires run { spec.CanRun image.now epoch memory.old }
     requires before { first_epochs image.now epoch ≡ record { end = Done epoch; bytes = memory.old } }
     requires kept { spec.AreKept image.now epoch writers.old nearest }
     ensures kept { spec.AreKept image.now (epoch + 1) writers.new result.nearest }
     ensures goes_on { result.goes_on ≡ true → first_epochs image.now (epoch + 1) ≡ record { end = Done (epoch + 1); bytes = memory.new } }
     ensures ends { result.goes_on ≡ false → IsInOrder image.now (epoch + 1) → ⊥ }
 {
+    let at = Epoch::of(epoch);
     let mut hart = start(image, epoch);
     let mut nearest = nearest;
     'accesses: loop {
         let arrived = advance(image, hart);
         match arrived.at() {
             Stop::Load { addr, width, .. } => {
-                nearest = nearer_of(writers, epoch, addr, width, nearest);
+                nearest = nearer_of(writers, at, addr, width, nearest);
                 hart = loaded(&arrived, read_number(memory, addr as usize, width));
             }
             Stop::Store { addr, width, value } => {
                 write_number(memory, addr as usize, width, value);
-                mark(writers, addr, width, epoch + 1);
+                mark(writers, addr, width, at.note());
                 hart = stored(&arrived);
             }
             Stop::Ended => {
@@ -111,14 +111,13 @@ fn follow(
 /// The nearest of what was found, and of the epochs that last wrote the bytes of a load.
 pub(crate) fn nearer_of(
     writers: &[u32],
-    epoch: u32,
+    epoch: Epoch,
     addr: u32,
     width: u32,
     nearest: Option<u32>,
 ) -> Option<u32>
     requires small { length writers.now < 2 ^ 32 }
     requires within { addr + width ≤ length writers.now }
-    requires epoch { epoch < 2 ^ 16 }
     requires earlier { (a : ℕ) → slice_index writers.now a ≤ epoch + 1 }
     ensures { result ≡ spec.load_behind writers.now epoch addr width nearest }
 {
@@ -130,15 +129,15 @@ pub(crate) fn nearer_of(
 }
 
 /// How far an epoch is behind the last writer of a byte: none where there is none, or it is the epoch itself.
-fn behind(epoch: u32, writer: u32) -> Option<u32>
-    requires epoch { epoch < 2 ^ 16 }
+fn behind(epoch: Epoch, writer: u32) -> Option<u32>
     requires earlier { writer ≤ epoch + 1 }
     ensures { result ≡ spec.behind epoch writer }
 {
-    if writer == 0 || writer == epoch + 1 {
+    let own = epoch.note();
+    if writer == 0 || writer == own {
         None
     } else {
-        Some(epoch + 1 - writer)
+        Some(own - writer)
     }
 }
 

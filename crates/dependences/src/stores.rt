@@ -3,9 +3,11 @@ ghost use Rattle.rv32_image.specs.Image.{IsImage};
 ghost use Rattle.rv32_exec.specs.declared.sequential.End.TheVariants.{Done};
 ghost use Rattle.rv32_exec.specs.Sequential.{first_epochs};
 ghost use Rattle.dependences.specs.Conflict.{IsInOrder};
+ghost use Rattle.dependences.specs.Kept.{CanRun};
 ghost use Rattle.dependences.specs.KeptPieces as spec;
 ghost use Rattle.dependences.specs.Stored.{AreStores, piece_in};
 
+use crate::epoch::Epoch;
 use crate::pieces::Pieces;
 use memory_bytes::{read_number, write_number};
 use rv32_exec::{NoMemory, Stop, advance, loaded, start, stored};
@@ -77,10 +79,8 @@ fn follow(
     memory: &mut [u8],
     noted: &mut Noted,
 ) -> Result<bool, NoMemory>
-    requires limits { IsImage image.now }
-    requires size { length memory.old ≡ image.now.size }
+    requires run { CanRun image.now epoch memory.old }
     requires long { length noted.old.last.items ≡ piece_in pieces image.now image.now.size }
-    requires epoch { epoch < image.now.epochs }
     requires before { first_epochs image.now epoch ≡ record { end = Done epoch; bytes = memory.old } }
     requires kept { spec.AreBefore image.now (piece_in pieces image.now) epoch noted.old.list.items }
     requires fresh { (a : ℕ) → slice_index noted.old.last.items a ≤ epoch }
@@ -90,6 +90,7 @@ fn follow(
     ensures goes_on { IfOk result (λ goes_on. goes_on ≡ true → first_epochs image.now (epoch + 1) ≡ record { end = Done (epoch + 1); bytes = memory.new }) }
     ensures ends { IfOk result (λ goes_on. goes_on ≡ false → IsInOrder image.now (epoch + 1) → ⊥) }
 {
+    let at = Epoch::of(epoch);
     let mut hart = start(image, epoch);
     'accesses: loop {
         let arrived = advance(image, hart);
@@ -99,7 +100,7 @@ fn follow(
             }
             Stop::Store { addr, width, value } => {
                 write_number(memory, addr as usize, width, value);
-                note(noted, image, pieces, epoch, addr, width)?;
+                note(noted, image, pieces, at, addr, width)?;
                 hart = stored(&arrived);
             }
             Stop::Ended => return Ok(!arrived.now().exits(image)),
@@ -113,12 +114,11 @@ fn note(
     noted: &mut Noted,
     image: &Image,
     pieces: Pieces,
-    epoch: u32,
+    epoch: Epoch,
     addr: u32,
     width: u32,
 ) -> Result<(), NoMemory>
     requires limits { IsImage image.now }
-    requires epoch { epoch < 2 ^ 16 }
     requires within { addr + width ≤ image.now.size }
     requires long { length noted.old.last.items ≡ piece_in pieces image.now image.now.size }
     requires noted { spec.AreNoted epoch noted.old.last.items noted.old.list.items }
@@ -135,8 +135,7 @@ fn note(
 }
 
 /// Notes that the epoch stores in this piece.
-fn note_piece(noted: &mut Noted, epoch: u32, piece: u32) -> Result<(), NoMemory>
-    requires epoch { epoch < 2 ^ 16 }
+fn note_piece(noted: &mut Noted, epoch: Epoch, piece: u32) -> Result<(), NoMemory>
     requires within { piece < length noted.old.last.items }
     requires noted { spec.AreNoted epoch noted.old.last.items noted.old.list.items }
     requires fresh { (a : ℕ) → slice_index noted.old.last.items a ≤ epoch + 1 }
@@ -145,11 +144,11 @@ fn note_piece(noted: &mut Noted, epoch: u32, piece: u32) -> Result<(), NoMemory>
     ensures noted { OnOk result (spec.AreNoted epoch noted.new.last.items noted.new.list.items) }
     ensures more { OnOk result (spec.AreMore epoch (λ p. p ≡ piece) noted.old.list.items noted.new.list.items) }
 {
-    if noted.last[piece as usize] == epoch + 1 {
+    if noted.last[piece as usize] == epoch.note() {
         return Ok(());
     }
-    noted.last[piece as usize] = epoch + 1;
-    add(&mut noted.list, piece, epoch)
+    noted.last[piece as usize] = epoch.note();
+    add(&mut noted.list, piece, epoch.number())
 }
 
 /// Adds a piece with an epoch.

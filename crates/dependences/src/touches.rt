@@ -1,24 +1,24 @@
-ghost use Rattle.std.specs.Prelude.{◌≡◌, false, ℕ, ◌+◌, ◌%◌, ◌<◌, ◌≤◌, ◌^◌, IfOk, length, slice_index};
-ghost use Rattle.memory_bytes.specs.Bytes.{IsWidth};
+ghost use Rattle.std.specs.Prelude.{◌≡◌, ℕ, ◌+◌, ◌-◌, ◌<◌, ◌≤◌, ◌^◌, IfOk, length, slice_index};
 ghost use Rattle.rv32_image.specs.Image.{IsImage};
-ghost use Rattle.spec_history.specs.Conflict.{line_count};
-ghost use Rattle.dependences.specs.KeptLines.{AreLines, AreLinesNoted};
+ghost use Rattle.spec_history.specs.Conflict.{line_number};
 ghost use Rattle.dependences.specs.KeptTouches as spec;
 
+use crate::beside::first_beside;
+use crate::epoch::Epoch;
 use crate::last_two::{LastTwo, line_of};
 use rv32_exec::NoMemory;
 use rv32_image::Image;
 use std::alloc::Global;
 use std::marker::Model;
 
-/// Who touched each line last; of each line the last epoch that stored in it, and 1, or 0 for none; in how many this epoch has; and
-/// whether an epoch beside it has touched one of these.
+/// Who touched each line last; of each line the last epoch that stored in it, and 1, or 0 for none; of each epoch how many shared
+/// lines it stores in, 0 where no earlier epoch touches one of these; and whether one of these counts is above what a buffer takes.
 #[derive(Drop)]
 pub(crate) struct Touches {
     two: LastTwo,
     stored: Vec<u32>,
-    count: u32,
-    shared: bool,
+    counts: Vec<u32>,
+    full: bool,
 }
 
 impl Model for Touches {
@@ -26,7 +26,7 @@ impl Model for Touches {
 
     ghost Value = { spec.Touched };
 
-    ghost view = { λ t. record { two = t.two; stored = t.stored.items; count = t.count; shared = t.shared } };
+    ghost view = { λ t. record { two = t.two; stored = t.stored.items; counts = t.counts.items; full = t.full } };
 }
 
 impl Touches {
@@ -36,80 +36,103 @@ impl Touches {
     {
         let count = line_of(image, image.size()) as usize;
         let stored = vec![in alloc; 0; count]?;
+        let epochs = image.epochs() as usize;
+        let counts = vec![in alloc; 0; epochs]?;
         let two = LastTwo::none(alloc, image)?;
         Ok(Touches {
             two,
             stored,
-            count: 0,
-            shared: false,
+            counts,
+            full: false,
         })
     }
 
-    /// Begins an epoch, which has stored in no line.
-    pub(crate) fn begin(&mut self)
-        ensures { self.new ≡ record { two = self.old.two; stored = self.old.stored; count = 0; shared = false } }
-    {
-        self.count = 0;
-        self.shared = false;
-    }
-
     /// Notes that this epoch touches these bytes.
-    pub(crate) fn touch(&mut self, image: &Image, epoch: u32, addr: u32, width: u32)
-        requires limits { IsImage image.now }
-        requires epoch { epoch < 2 ^ 16 }
-        requires wide { IsWidth width }
-        requires aligned { addr % width ≡ 0 }
-        requires within { addr + width ≤ image.now.size }
-        requires lines { AreLines image.now self.old.two }
-        ensures two { AreLinesNoted image.now self.old.two self.new.two epoch addr width }
-        ensures stored { self.new.stored ≡ self.old.stored }
-        ensures count { self.new.count ≡ self.old.count }
-        ensures shared { self.new.shared ≡ self.old.shared }
+    pub(crate) fn touch(&mut self, image: &Image, cores: u32, epoch: u32, addr: u32)
+        requires epoch { epoch < image.now.epochs }
+        requires within { addr < image.now.size }
+        requires long { spec.AreTouches image.now self.old }
+        requires last { slice_index self.old.two.last (line_number image.now addr) ≤ epoch + 1 }
+        ensures { self.new ≡ spec.after_touch self.old image.now.machine.buffer_lines cores epoch (line_number image.now addr) }
     {
-        self.two.note_line(image, epoch, addr, width);
-    }
-
-    /// Notes that this epoch stores these bytes.
-    pub(crate) fn store(&mut self, image: &Image, epoch: u32, first: u32, addr: u32, width: u32)
-        requires limits { IsImage image.now }
-        requires epoch { epoch < 2 ^ 16 }
-        requires wide { IsWidth width }
-        requires aligned { addr % width ≡ 0 }
-        requires within { addr + width ≤ image.now.size }
-        requires lines { AreLines image.now self.old.two }
-        requires stored { length self.old.stored ≡ line_count image.now }
-        requires counted { spec.AreCounted self.old epoch first }
-        ensures { spec.AreStoredIn image.now self.old self.new epoch first addr width }
-    {
+        let limit = image.machine().buffer_lines;
         let line = line_of(image, addr);
-        self.store_in(epoch, first, line);
+        self.touch_in(limit, cores, epoch, line);
     }
 
-    /// Notes that this epoch stores in this line.
-    fn store_in(&mut self, epoch: u32, first: u32, line: u32)
-        requires epoch { epoch < 2 ^ 16 }
-        requires last { line < length self.old.two.last }
-        requires before { line < length self.old.two.before }
-        requires stored { line < length self.old.stored }
-        requires small { length self.old.stored < 2 ^ 32 }
-        requires counted { spec.AreCounted self.old epoch first }
-        ensures { spec.IsStoredIn self.old self.new epoch first line }
+    /// Notes that this epoch stores in the line of this byte, which it touches.
+    pub(crate) fn store(&mut self, image: &Image, cores: u32, epoch: u32, addr: u32)
+        requires epoch { epoch < image.now.epochs }
+        requires within { addr < image.now.size }
+        requires long { spec.AreTouches image.now self.old }
+        ensures { self.new ≡ spec.after_store self.old image.now.machine.buffer_lines cores epoch (line_number image.now addr) }
+    {
+        let limit = image.machine().buffer_lines;
+        let line = line_of(image, addr);
+        self.store_in(limit, cores, epoch, line);
+    }
+
+    /// Notes that this epoch touches this line: where the last one before it stores in the line and is near, the line is shared.
+    fn touch_in(&mut self, limit: u32, cores: u32, epoch: u32, line: u32)
+        requires inside { spec.IsInside self.old epoch line }
+        requires last { slice_index self.old.two.last line ≤ epoch + 1 }
+        ensures { self.new ≡ spec.after_touch self.old limit cores epoch line }
+    {
+        let last = self.two.last_in(line);
+        if last == epoch + 1 {
+            return;
+        }
+        if self.is_shared_now(cores, epoch, line) {
+            self.count(limit, last - 1);
+        }
+        self.two.follow(Epoch::of(epoch), line);
+    }
+
+    /// Whether a touch by this epoch makes the line a shared one of the last epoch that touched it.
+    fn is_shared_now(&self, cores: u32, epoch: u32, line: u32) -> bool
+        requires inside { spec.IsInside self.now epoch line }
+        requires last { slice_index self.now.two.last line ≤ epoch + 1 }
+        ensures { result ≡ spec.is_shared_now self.now cores epoch line }
+    {
+        let last = self.two.last_in(line);
+        last > first_beside(cores, epoch)
+            && self.stored[line as usize] == last
+            && self.two.before_in(line) <= first_beside(cores, last - 1)
+            && self.counts[(last - 1) as usize] > 0
+    }
+
+    /// Notes that this epoch stores in this line: where one beside it has touched the line before, it is shared.
+    fn store_in(&mut self, limit: u32, cores: u32, epoch: u32, line: u32)
+        requires inside { spec.IsInside self.old epoch line }
+        ensures { self.new ≡ spec.after_store self.old limit cores epoch line }
     {
         let at = line as usize;
-        let stamp = self.stored[at];
-        if stamp != epoch + 1 {
-            self.stored[at] = epoch + 1;
-            self.count += 1;
-            if self.two.other_before(epoch, line) > first {
-                self.shared = true;
-            }
+        if self.stored[at] == epoch + 1 {
+            return;
+        }
+        self.stored[at] = epoch + 1;
+        if self.two.before_in(line) > first_beside(cores, epoch) {
+            self.count(limit, epoch);
         }
     }
 
-    /// Whether this epoch has stored in more lines than its buffer takes, and an epoch beside it has touched one of these.
-    pub(crate) fn overflows(&self, image: &Image) -> bool
-        ensures { result ≡ spec.overflows image.now self.now }
+    /// Counts a shared line more for this epoch.
+    fn count(&mut self, limit: u32, epoch: u32)
+        requires within { epoch < length self.old.counts }
+        requires few { slice_index self.old.counts epoch < 2 ^ 32 - 1 }
+        ensures { self.new ≡ spec.counted self.old limit epoch }
     {
-        self.count > image.machine().buffer_lines && self.shared
+        let count = self.counts[epoch as usize] + 1;
+        self.counts[epoch as usize] = count;
+        if count > limit {
+            self.full = true;
+        }
+    }
+
+    /// Whether an epoch has stored in more shared lines than its buffer takes.
+    pub(crate) fn overflows(&self) -> bool
+        ensures { result ≡ self.now.full }
+    {
+        self.full
     }
 }

@@ -1,18 +1,26 @@
 -- Whether schedules of so many cores can violate an epoch.
--- Source: the laws of `dependences`.
+-- Source: the laws of `dependences` and `shared_lines`.
 use Rattle.std.specs.Prelude.{◌≡◌, ◌⊎◌, ℕ, ◌<◌, ◌≤◌, Option, Some, None}
 use Rattle.rv32_image.specs.Image.{LoadedImage}
-use Rattle.dependences.specs.Conflict.{ConflictInOrder, LineConflictInOrder, OverflowInOrder}
+use Rattle.dependences.specs.Conflict.{ConflictInOrder, LineConflictInOrder, Overflow}
+use Rattle.dependences.specs.Shared.{SharedOverflowInOrder}
 use Rattle.dependences.specs.Kept.{AreAll}
 use Rattle.dependences.specs.Nearest.{IsNearest}
 use Rattle.dependences.specs.Laws.{NeverOverBytes, NeverOverLines}
+use Rattle.shared_lines.specs.NeverOverBus.{NeverOverBus}
 use Rattle.depends.specs.declared.least.Found.{Found}
 use Rattle.depends.specs.declared.least.Grain.{Grain}
 use Rattle.depends.specs.declared.least.Grain.TheVariants.{Lines, Bytes}
 
--- no legal history of so many cores has a violation over a store that watches lines, or bytes
+-- no book over the caches has a violation, whatever turns led to it, on so many cores; nor has a legal history, where none would overflow
+-- if buffers took all lines that are stored in
+pub record NeverOverCaches (image : LoadedImage) (cores : ℕ) : Type 0 where
+  pub books : NeverOverBus image cores
+  pub histories : (Overflow image cores → ⊥) → NeverOverLines image cores
+
+-- so over caches; and over a store that watches bytes no legal history of so many cores has a violation
 abbrev pub NeverOn : LoadedImage → Grain → ℕ → Type 0
-NeverOn image Lines cores = NeverOverLines image cores
+NeverOn image Lines cores = NeverOverCaches image cores
 NeverOn image Bytes cores = NeverOverBytes image cores
 
 -- nor has one of fewer cores
@@ -21,7 +29,7 @@ NeverRollsBack image grain most = (cores : ℕ) → cores ≤ most → NeverOn i
 
 -- two epochs that so many cores can run beside each other conflict
 abbrev pub Conflicts : LoadedImage → Grain → ℕ → Type 0
-Conflicts image Lines cores = LineConflictInOrder image cores ⊎ OverflowInOrder image cores
+Conflicts image Lines cores = LineConflictInOrder image cores ⊎ SharedOverflowInOrder image cores
 Conflicts image Bytes cores = ConflictInOrder image cores
 
 -- epochs conflict on so many cores; or no history of these or fewer has a violation

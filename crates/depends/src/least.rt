@@ -9,9 +9,10 @@ use dependences::{
     CacheConflict, conflict_over_caches, conflicts_over_bytes, least_conflict_over_bytes,
 };
 use rv32_exec::Image;
+use shared_lines::laws::without_line_conflict_and_shared_overflow_never_over_bus;
 use std::alloc::{AllocError, Global};
 
-/// What a store watches for conflicts: the lines and buffers of caches, or bytes.
+/// What a store watches for conflicts: the lines of the caches on a bus and their buffers, or bytes.
 #[derive(Clone, Copy)]
 pub enum Grain {
     Lines,
@@ -106,6 +107,7 @@ fn conflict_on(
 fn conflict_on_caches(alloc: Global, image: &Image, cores: u32) -> Result<Option<Found>, AllocError>
     ensures { IfOk result (spec.IsFound image.now Grain.Lines cores) }
 {
+    without_line_conflict_and_shared_overflow_never_over_bus();
     let Ok(found) = conflict_over_caches(alloc, image, cores) else {
         return Err(AllocError);
     };

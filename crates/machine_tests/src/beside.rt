@@ -94,7 +94,8 @@ fn conflicts_begin_with_so_many_cores(rt: HostRuntime) -> Result<(), Fail> {
     Ok(())
 }
 
-/// Loops that load nothing, and the least number of cores, up to 8, on which a buffer of 4 lines is too small, worked out by hand.
+/// Loops that load nothing, and the least number of cores, up to 8, on which a buffer of 4 lines is too small for the shared ones, worked
+/// out by hand.
 const STORES: &str = "
 # sw x0, 64(x0) and so on, each 16 bytes further: each epoch stores in the same four lines.
 size 4096; epochs 8; limit 100; code 2320000423280004232000062328000667800000 | -
@@ -102,8 +103,18 @@ size 4096; epochs 8; limit 100; code 2320000423280004232000062328000667800000 | 
 size 4096; epochs 8; limit 100; code 232000042328000423200006232800062320000867800000 | 2
 # slli x6, x10, 7; sw x0, 64(x6) and so on: in five of its own.
 size 4096; epochs 8; limit 100; code 13137500232003042328030423200306232803062320030867800000 | -
-# Epoch 2 stores in five, and epoch 0 in one of these.
-size 4096; epochs 8; limit 100; code 9302e5ff639c02002320000423280004232000062328000623200008631405002322000467800000 | 3
+# Epoch 2 stores in five, and epoch 0 in one of these, which alone the buffer has to take.
+size 4096; epochs 8; limit 100; code 9302e5ff639c02002320000423280004232000062328000623200008631405002322000467800000 | -
+# A line of all epochs, and four of each its own: of the five in which it stores its buffer has to take one.
+size 256; epochs 2; limit 100; code 2320a0049312650023a8a20423a0a20623a8a20623a0a20867800000 | -
+# Five lines of all epochs, and a buffer takes four.
+size 256; epochs 2; limit 100; code 2320a0042328a0042320a0062328a0062320a00867800000 | 2
+# Four lines of all epochs, and one of each its own.
+size 256; epochs 2; limit 100; code 2320a0042328a0042320a0062328a0069312650023a0a20867800000 | -
+# Epoch 1 stores in a line of epoch 0, and in four of epoch 2.
+size 256; epochs 3; limit 100; code 13332500630403002320a004630a05002328a0042320a0062328a0062320a00867800000 | 2
+# Epoch 0 stores in five lines, three of epoch 1 and two of epoch 2: no earlier one touches them.
+size 256; epochs 3; limit 100; code 13332500630803002320a0042328a0042320a0069303f5ff638603002328a0062320a00867800000 | -
 ";
 
 /// Whether a buffer is too small for a row's loop on so many cores where the row says.

@@ -37,10 +37,9 @@ use Rattle.spec_bus.specs.Parts.{core_at, line_or_none, room_at, room_in, state_
 use Rattle.spec_bus.specs.CoreStates.{state_of}
 use Rattle.bus_states.specs.Bus.{no_core}
 use Rattle.dependences.specs.Conflict.{LineConflict, StoresIn, path_memory}
-use Rattle.dependences.specs.KeptTouches.{TouchesIn}
+use Rattle.dependences.specs.Shared.{SharedOverflow, TouchesIn}
 use Rattle.dependences.proofs.Starting.{IsOrderly}
 use Rattle.dependences.proofs.Windows.{IsInWindow}
-use Rattle.shared_lines.specs.Shared.{SharedOverflow}
 use Rattle.shared_lines.proofs.Tidy.{required-written}
 use Rattle.shared_lines.proofs.Accesses.{Goes, MayTell, attempts, limits, epoch_on}
 use Rattle.shared_lines.proofs.Speculating.{load-goes, store-goes, store-has}

@@ -25,7 +25,7 @@ use Rattle.homefree.specs.Retraced.{IsRetraced, book_over, turns_of}
 use Rattle.homefree.proofs.Books.Following.{turn_grows}
 use Rattle.dependences.specs.Conflict.{LineConflict}
 use Rattle.dependences.specs.Laws.{NoneIsHurt}
-use Rattle.shared_lines.specs.Shared.{SharedOverflow}
+use Rattle.dependences.specs.Shared.{SharedOverflow}
 use Rattle.shared_lines.proofs.Tidy.{IsTidy, none-fit}
 use Rattle.shared_lines.proofs.Lines.{Reads, Shares, Writes}
 use Rattle.shared_lines.proofs.Epochs.{IsSeen}

@@ -32,12 +32,11 @@ use Rattle.bus_states.specs.Coherent.{speculates}
 use Rattle.bus_states.specs.Speculative.{own}
 use Rattle.bus_states.proofs.Addresses.{offset-aligned, offset-in_line}
 use Rattle.dependences.specs.Conflict.{LineConflict, StoresIn, path_memory}
-use Rattle.dependences.specs.KeptTouches.{TouchesIn}
+use Rattle.dependences.specs.Shared.{RunBeside, SharedOverflow, TouchesIn}
 use Rattle.dependences.proofs.Meetings.{two_beside}
 use Rattle.dependences.proofs.Paths.{IsAt, loads_there, reads_there, stores_there}
 use Rattle.dependences.proofs.Starting.{IsOrderly}
 use Rattle.dependences.proofs.Windows.{IsInWindow}
-use Rattle.shared_lines.specs.Shared.{RunBeside, SharedOverflow}
 use Rattle.shared_lines.proofs.Messages.{MayHear}
 use Rattle.shared_lines.proofs.Accesses.{AreTidy, MayTell, attempts, limits}
 use Rattle.shared_lines.proofs.Tidy.{carried-mask}

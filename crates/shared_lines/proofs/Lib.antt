@@ -28,5 +28,3 @@ pub mod Steps
 pub mod Drives
 -- A loop and so many cores, without a book.
 pub mod Nevers
--- Buffers that shared lines overflow.
-pub mod Overflows

@@ -8,10 +8,9 @@ use Rattle.spec_history.specs.Conflict.{line_number}
 use Rattle.spec_history.specs.Searches.{count_below}
 use Rattle.orb.specs.Lines.{holds, IsEachOnce}
 use Rattle.dependences.specs.Conflict.{AreBeside, LineConflict, PathReads, StoresIn, path_memory}
-use Rattle.dependences.specs.KeptTouches.{TouchesIn}
+use Rattle.dependences.specs.Shared.{IsShared, RunBeside, SharedOverflow, TouchesIn}
 use Rattle.dependences.proofs.Meetings.{passing}
 use Rattle.dependences.proofs.Windows.{count_more}
-use Rattle.shared_lines.specs.Shared.{IsShared, RunBeside, SharedOverflow}
 use Rattle.shared_lines.proofs.Messages.{FitsBuffer}
 
 -- the epoch's path reads a byte of this line from outside

@@ -7,7 +7,7 @@ use Rattle.homefree.proofs.Violations.Knowing.{are_known}
 use Rattle.dependences.specs.Conflict.{LineConflict}
 use Rattle.dependences.specs.Laws.{NeverOverLines}
 use Rattle.shared_lines.specs.NeverOverBus.{NeverOverBus}
-use Rattle.shared_lines.specs.Shared.{SharedOverflow}
+use Rattle.dependences.specs.Shared.{SharedOverflow}
 use Rattle.shared_lines.proofs.Drives.{none_is_hurt}
 
 -- what is of the one image and cores, is of the other

@@ -24,7 +24,7 @@ use Rattle.homefree.specs.Turned as turn
 use Rattle.homefree.specs.Turned.{Outcome, Turn, Turned, turn_at}
 use Rattle.dependences.specs.Conflict.{LineConflict}
 use Rattle.dependences.specs.Laws.{NoneIsHurt}
-use Rattle.shared_lines.specs.Shared.{SharedOverflow}
+use Rattle.dependences.specs.Shared.{SharedOverflow}
 use Rattle.shared_lines.proofs.Epochs.{IsSeen}
 use Rattle.shared_lines.proofs.Calls.{HasPlaces, places_after, reserve_same}
 use Rattle.shared_lines.proofs.Calm.{IsCalm}

@@ -34,7 +34,7 @@ use Rattle.homefree.proofs.State.Arms.{none_among}
 use Rattle.dependences.specs.Conflict.{LineConflict, path_memory}
 use Rattle.dependences.specs.Laws.{NoneIsHurt}
 use Rattle.dependences.proofs.Showing.{line_of as lines_conflict}
-use Rattle.shared_lines.specs.Shared.{SharedOverflow}
+use Rattle.dependences.specs.Shared.{SharedOverflow}
 use Rattle.shared_lines.proofs.Accesses.{MayTell, attempts, limits, epoch_on}
 use Rattle.shared_lines.proofs.Lines.{Reads, Shares, Writes}
 use Rattle.shared_lines.proofs.Epochs.{IsSeen, attempt_by, may_tell}

@@ -32,7 +32,7 @@ use Rattle.homefree.specs.Turned as turn
 use Rattle.homefree.specs.Turned.{Outcome, Publishing, Turn, does, publish_of, publishes_unless, wait_at}
 use Rattle.dependences.specs.Conflict.{LineConflict}
 use Rattle.dependences.specs.Laws.{NoneIsHurt}
-use Rattle.shared_lines.specs.Shared.{SharedOverflow}
+use Rattle.dependences.specs.Shared.{SharedOverflow}
 use Rattle.shared_lines.proofs.Accesses.{Goes}
 use Rattle.shared_lines.proofs.Straights.{Sets, attempt-sets}
 use Rattle.shared_lines.proofs.Lines.{Reads, Shares, Writes}

@@ -1,4 +1,2 @@
--- Definitions to believe: Shared (lines that epochs beside each other touch, and buffers that are too small for these), NeverOverBus
--- (that no schedule violates an epoch over the caches).
-pub mod Shared
+-- Definitions to believe: NeverOverBus (that no schedule violates an epoch over the caches).
 pub mod NeverOverBus

@@ -2,10 +2,10 @@
 
 ghost use Rattle.std.specs.Prelude.{ℕ};
 ghost use Rattle.rv32_image.specs.Image.{LoadedImage};
-ghost use Rattle.dependences.specs.Conflict.{LineConflict, Overflow};
+ghost use Rattle.dependences.specs.Conflict.{LineConflict};
 ghost use Rattle.dependences.specs.Laws.{NeverOverLines, NoneIsHurt};
 ghost use Rattle.shared_lines.specs.NeverOverBus.{NeverOverBus};
-ghost use Rattle.shared_lines.specs.Shared.{SharedOverflow};
+ghost use Rattle.dependences.specs.Shared.{SharedOverflow};
 
 use homefree::Book;
 use spec_bus::CachedBus;
@@ -36,9 +36,4 @@ pub fn never_over_bus_no_bus_is_hurt(book: &Book<CachedBus>)
 /// Where no legal history has a violation, if each is of a kind, no book over the caches has one: `dependences` has laws of the first.
 pub fn never_over_lines_never_over_bus()
     ensures { (image : LoadedImage) (cores : ℕ) → NeverOverLines image cores → NeverOverBus image cores }
-{}
-
-/// An overflow by shared lines is an overflow: so the law that takes none of the first is the finer one.
-pub fn shared_overflow_is_overflow()
-    ensures { (image : LoadedImage) (cores : ℕ) → SharedOverflow image cores → Overflow image cores }
 {}

@@ -11,7 +11,7 @@ use Rattle.dependences.proofs.alone.meets_writer.Goals as goal
 
 pub accesses-init : goal.accesses-init
 accesses-init c = record {
-  alone = rw c.start-hart.ensures (alone_start c.args.image.now c.args.epoch c.args.memory.now c.args.writers.now c.args.first c.requires.size c.requires.long);
+  alone = rw c.start-hart.ensures (alone_start c.args.image.now c.args.epoch c.args.memory.now c.args.writers.now c.args.first c.requires.run.size c.requires.long);
   within = rw c.start-hart.ensures (omega arith);
 }
 

@@ -11,7 +11,7 @@ use Rattle.dependences.proofs.alone.run_one.Goals as goal
 
 pub accesses-init : goal.accesses-init
 accesses-init c = record {
-  path = rw c.start-hart.ensures (path_start c.args.image.now c.args.epoch c.args.memory.now c.requires.size);
+  path = rw c.start-hart.ensures (path_start c.args.image.now c.args.epoch c.args.memory.now c.requires.run.size);
   within = rw c.start-hart.ensures (omega arith);
 }
 

@@ -1,11 +1,12 @@
 use Rattle.std.proofs.Common.{◌≡◌, ◌≤◌, ℕ, None, Option, sym, ◌∙◌}
 use Rattle.std.proofs.lemmas.Result.{IfOk-weaker}
 use Rattle.dependences.specs.declared.caches.CacheConflict.{CacheConflict}
-use Rattle.dependences.specs.Conflict.{LineConflict, Overflow}
-use Rattle.dependences.specs.KeptTouches.{IsNever}
+use Rattle.dependences.specs.Conflict.{Overflow}
+use Rattle.dependences.specs.Shared.{AreApart}
 use Rattle.dependences.specs.Laws.{NeverOverLines}
-use Rattle.dependences.proofs.Caching.{never_alone, never_buffers, never_lines, none_of}
-use Rattle.dependences.proofs.Nevers.{never_lines_on_fewer}
+use Rattle.dependences.specs.KeptTouches.{IsNever}
+use Rattle.dependences.proofs.Caching.{never_alone, none_of}
+use Rattle.dependences.proofs.Nevers.{apart_on_fewer, never_lines_on_fewer}
 use Rattle.dependences.proofs.caches.conflict_over_caches.Goals as goal
 
 pub conflict_past_end-requires-clause-all : goal.conflict_past_end-requires-clause-all
@@ -20,34 +21,24 @@ conflict_past_end-requires-clause-touches c = c.conflict_in_order-ran.ensures.to
 pub conflict_past_end-requires-clause-clear : goal.conflict_past_end-requires-clause-clear
 conflict_past_end-requires-clause-clear c = c.conflict_in_order-ran.ensures.none (none_of c.conflict_in_order-ran.result.found (sym c.is_some.ensures ∙ c.if-is_some.false))
 
-pub returns-clause-lines : goal.returns-clause-lines
-returns-clause-lines c =
+pub returns-clause-apart : goal.returns-clause-apart
+returns-clause-apart c =
     IfOk-weaker c.conflict_past_end.result (λ (found : Option CacheConflict). found ≡ None → IsNever c.args.image.now c.args.cores)
-    (λ (found : Option CacheConflict). found ≡ None → LineConflict c.args.image.now c.args.cores → ⊥)
-    (λ found never none. never_lines c.args.image.now c.args.cores c.bytes-bytes.ensures.limits (never none)) c.conflict_past_end.ensures.none
-
-pub returns-clause-buffers : goal.returns-clause-buffers
-returns-clause-buffers c =
-    IfOk-weaker c.conflict_past_end.result (λ (found : Option CacheConflict). found ≡ None → IsNever c.args.image.now c.args.cores)
-    (λ (found : Option CacheConflict). found ≡ None → Overflow c.args.image.now c.args.cores → ⊥)
-    (λ found never none. never_buffers c.args.image.now c.args.cores c.bytes-bytes.ensures.limits (never none)) c.conflict_past_end.ensures.none
+    (λ (found : Option CacheConflict). found ≡ None → (fewer : ℕ) → fewer ≤ c.args.cores → AreApart c.args.image.now fewer)
+    (λ found never none. apart_on_fewer c.args.image.now c.args.cores c.bytes-bytes.ensures.limits (never none)) c.conflict_past_end.ensures.none
 
 pub returns-clause-never : goal.returns-clause-never
 returns-clause-never c =
     IfOk-weaker c.conflict_past_end.result (λ (found : Option CacheConflict). found ≡ None → IsNever c.args.image.now c.args.cores)
-    (λ (found : Option CacheConflict). found ≡ None → (fewer : ℕ) → fewer ≤ c.args.cores → NeverOverLines c.args.image.now fewer)
+    (λ (found : Option CacheConflict). found ≡ None → (fewer : ℕ) → fewer ≤ c.args.cores → (Overflow c.args.image.now fewer → ⊥) → NeverOverLines c.args.image.now fewer)
     (λ found never none. never_lines_on_fewer c.args.image.now c.args.cores c.bytes-bytes.ensures.limits (never none)) c.conflict_past_end.ensures.none
 
 pub returns-then-cores-lt2-clause-none : goal.returns-then-cores-lt2-clause-none
 returns-then-cores-lt2-clause-none c none = never_alone c.args.image.now c.args.cores c.if-cores-lt2.true
 
-pub returns-then-cores-lt2-clause-lines : goal.returns-then-cores-lt2-clause-lines
-returns-then-cores-lt2-clause-lines c none =
-    never_lines c.args.image.now c.args.cores c.bytes-bytes.ensures.limits (never_alone c.args.image.now c.args.cores c.if-cores-lt2.true)
-
-pub returns-then-cores-lt2-clause-buffers : goal.returns-then-cores-lt2-clause-buffers
-returns-then-cores-lt2-clause-buffers c none =
-    never_buffers c.args.image.now c.args.cores c.bytes-bytes.ensures.limits (never_alone c.args.image.now c.args.cores c.if-cores-lt2.true)
+pub returns-then-cores-lt2-clause-apart : goal.returns-then-cores-lt2-clause-apart
+returns-then-cores-lt2-clause-apart c none =
+    apart_on_fewer c.args.image.now c.args.cores c.bytes-bytes.ensures.limits (never_alone c.args.image.now c.args.cores c.if-cores-lt2.true)
 
 pub returns-then-cores-lt2-clause-never : goal.returns-then-cores-lt2-clause-never
 returns-then-cores-lt2-clause-never c none =

@@ -1,9 +1,8 @@
-use Rattle.std.proofs.Common.{◌≡◌, ◌-◌, ℕ, List, length, sym, ap, subst, ◌∙◌, arith}
+use Rattle.std.proofs.Common.{◌≡◌, ℕ, List, length, sym, ap, subst, ◌∙◌, arith}
 use Rattle.rv32_exec.specs.declared.sequential.End.TheVariants.{Done}
 use Rattle.rv32_exec.specs.Sequential.{SequentialResult}
 use Rattle.rv32_exec.proofs.Epochs.{first_epochs-none}
-use Rattle.dependences.specs.Conflict.{first_beside}
-use Rattle.dependences.specs.KeptTouches.{AreClear}
+use Rattle.dependences.specs.KeptTouches.{AreClear, AreTouchesKept}
 use Rattle.dependences.proofs.Ending.{memory_there}
 use Rattle.dependences.proofs.Caching.{clear_more, never_at_all, never_further, none_of}
 use Rattle.dependences.proofs.caches.search.Goals as goal
@@ -21,19 +20,20 @@ loop-later-init c = record {
 
 pub returns-then-first-ran-clause-none : goal.returns-then-first-ran-clause-none
 returns-then-first-ran-clause-none c found =
-    let first : c.saturating_sub-first.result ≡ first_beside c.args.cores c.loop-later.later = c.saturating_sub-first.ensures ∙ ap (λ n. c.loop-later.later - n) c.saturating_sub.ensures in
-    never_further c.args.image.now c.args.cores c.args.ran c.loop-later.later c.requires.all (rw (← first) c.if-first-ran.true) c.loop-later.invariant.clear
+    let first = c.first_beside-first.ensures in
+    never_further c.args.image.now c.args.cores c.args.ran c.loop-later.later c.loop-later.touches c.requires.all (rw (← first) c.if-first-ran.true) c.loop-later.invariant.clear
+    c.loop-later.invariant.touches
 
 pub conflict_of-found-requires-clause-memory : goal.conflict_of-found-requires-clause-memory
 conflict_of-found-requires-clause-memory c =
-    let first : c.saturating_sub-first.result ≡ first_beside c.args.cores c.loop-later.later = c.saturating_sub-first.ensures ∙ ap (λ n. c.loop-later.later - n) c.saturating_sub.ensures in
+    let first = c.first_beside-first.ensures in
     c.copy_from_slice.ensures.after
-    ∙ sym (memory_there c.args.image.now c.args.cores c.args.ran c.requires.all c.loop-later.later c.saturating_sub-first.result c.run_between.new.memory
+    ∙ sym (memory_there c.args.image.now c.args.cores c.args.ran c.requires.all c.loop-later.later c.first_beside-first.result c.run_between.new.memory
     (omega arith) (omega (arith, c.loop-later-test.true, c.epochs-later-end.ensures.epochs)) first c.run_between.ensures.done)
 
 pub loop-later-preserved : goal.loop-later-preserved
 loop-later-preserved c =
-    let first : c.saturating_sub-first.result ≡ first_beside c.args.cores c.loop-later.later = c.saturating_sub-first.ensures ∙ ap (λ n. c.loop-later.later - n) c.saturating_sub.ensures in
+    let first = c.first_beside-first.ensures in
     let none = none_of c.conflict_of-found.result.found (sym c.is_some.ensures ∙ c.if-is_some.false) in
     record {
       before = c.run_between.ensures.done;
@@ -48,4 +48,5 @@ loop-later-preserved c =
 pub returns-clause-none : goal.returns-clause-none
 returns-clause-none c none =
     let last : c.loop-later.later ≡ c.args.image.now.epochs = omega (arith, c.requires.all.most, c.loop-later.auto.later, c.epochs-later-end.ensures.epochs, c.loop-later-test.false) in
-    never_at_all c.args.image.now c.args.cores (subst (λ n. AreClear c.args.image.now c.args.cores n) last c.loop-later.invariant.clear)
+    never_at_all c.args.image.now c.args.cores c.loop-later.touches (subst (λ n. AreClear c.args.image.now c.args.cores n) last c.loop-later.invariant.clear)
+    (subst (λ n. AreTouchesKept c.args.image.now c.args.cores n c.loop-later.touches) last c.loop-later.invariant.touches)

@@ -17,9 +17,9 @@ use Rattle.dependences.proofs.flow.follow.Goals as goal
 pub accesses-init : goal.accesses-init
 accesses-init c = record {
   flowing = rw (c.advance-arrived.ensures.base, c.start.ensures)
-      (flowing_start c.args.image.now c.args.epoch c.args.memory.now c.args.stores.now c.args.found.now.items c.requires.size c.requires.before c.requires.kept);
+      (flowing_start c.args.image.now c.args.epoch c.args.memory.now c.args.stores.now c.args.found.now.items c.requires.run.size c.requires.before c.requires.kept);
   following = rw (c.advance-arrived.ensures.base, c.start.ensures)
-      (following_start c.args.image.now c.args.epoch c.args.memory.now c.args.stores.now.writers c.args.nearest c.requires.size c.requires.before c.requires.writers);
+      (following_start c.args.image.now c.args.epoch c.args.memory.now c.args.stores.now.writers c.args.nearest c.requires.run.size c.requires.before c.requires.writers);
   come = has_come c.args.image.now c.advance-arrived.result c.start.result c.advance-arrived.ensures.base c.advance-arrived.ensures.now c.advance-arrived.ensures.at
       c.advance-arrived.ensures.stop;
   within = rw (c.advance-arrived.ensures.base, c.start.ensures) (omega arith);
@@ -27,7 +27,8 @@ accesses-init c = record {
 
 pub nearest_with-nearest-requires-clause-earlier : goal.nearest_with-nearest-requires-clause-earlier
 nearest_with-nearest-requires-clause-earlier c =
-    writers_below c.args.image.now c.args.epoch c.accesses.memory c.accesses.stores.writers c.accesses.arrived.base c.accesses.nearest c.accesses.invariant.following
+    rw c.of-at.ensures
+    (writers_below c.args.image.now c.args.epoch c.accesses.memory c.accesses.stores.writers c.accesses.arrived.base c.accesses.nearest c.accesses.invariant.following)
 
 pub accesses-preserved-in-Load : goal.accesses-preserved-in-Load
 accesses-preserved-in-Load c =
@@ -40,16 +41,16 @@ accesses-preserved-in-Load c =
     let order = runs_in_order image c.args.epoch c.args.memory.now c.requires.before in
     let now : c.now-now.result ≡ (next_event image h).now = c.now-now.ensures ∙ come.now in
     let note = rw now at c.in_ok-note_load-in-Load.ensures in
-    let next = flowing_load image c.args.epoch c.accesses.memory c.accesses.stores h c.accesses.found.items c.accesses.invariant.flowing order c.requires.epoch
+    let next = flowing_load image c.args.epoch c.accesses.memory c.accesses.stores h c.accesses.found.items c.accesses.invariant.flowing order c.requires.run.within
     c.in-Load.addr c.in-Load.width c.in-Load.signed c.in-Load.rd c.read_number.result c.note_load.new.found.items is (sym c.read_number.ensures.number) note in
-    let near = following_load image c.args.epoch c.accesses.memory c.accesses.stores.writers h c.accesses.nearest c.accesses.invariant.following order c.requires.epoch
+    let near = following_load image c.args.epoch c.accesses.memory c.accesses.stores.writers h c.accesses.nearest c.accesses.invariant.following order c.requires.run.within
     c.in-Load.addr c.in-Load.width c.in-Load.signed c.in-Load.rd c.read_number.result is (sym c.read_number.ensures.number) in
     let access : IsAccess image (next_event image h).now c.in-Load.addr c.in-Load.width = rw is at (stop_of_event image h) in
     let room = access.room in
     let count = load_counts image h c.in-Load.addr c.in-Load.width c.in-Load.signed c.in-Load.rd c.read_number.result is in
     record {
       flowing = rw hart next;
-      following = rw (hart, c.nearest_with-nearest.ensures) near;
+      following = rw (hart, c.nearest_with-nearest.ensures, c.of-at.ensures) near;
       come = has_come image c.advance_past_load.new.self _ past.base past.now past.at past.stop;
       within = rw hart (omega (arith, count, room));
     }
@@ -64,9 +65,9 @@ accesses-preserved c =
     let hart : c.advance_past_store.new.self.base ≡ stepped (next_event image h).now = rw come.now at past.base in
     let now : c.now-now.result ≡ (next_event image h).now = c.now-now.ensures ∙ come.now in
     let next = flowing_store image c.args.epoch c.accesses.memory c.accesses.stores h c.accesses.found.items c.accesses.invariant.flowing
-    c.mark.new.self c.in-Store.addr c.in-Store.width c.in-Store.value is (rw now at c.mark.ensures) in
+    c.mark.new.self c.in-Store.addr c.in-Store.width c.in-Store.value is (rw (now, c.note.ensures.note, c.of-at.ensures) at c.mark.ensures) in
     let near = following_store image c.args.epoch c.accesses.memory c.accesses.stores.writers h c.accesses.nearest c.accesses.invariant.following
-    c.mark.new.self.writers c.in-Store.addr c.in-Store.width c.in-Store.value is c.mark.ensures.writers_long c.mark.ensures.writers in
+    c.mark.new.self.writers c.in-Store.addr c.in-Store.width c.in-Store.value is c.mark.ensures.writers_long (rw (c.note.ensures.note, c.of-at.ensures) at c.mark.ensures.writers) in
     let store : IsStore image (next_event image h).now c.in-Store.addr c.in-Store.width c.in-Store.value = rw is at (stop_of_event image h) in
     let room = store.access.room in
     record {
@@ -89,7 +90,7 @@ returns-in-Ended-clause-writers c =
     let image = c.args.image.now in
     let h = c.accesses.arrived.base in
     let at : (next_event image h).at ≡ c.at.result = sym c.accesses.invariant.come.at ∙ sym c.at.ensures.at in
-    kept_after image c.args.epoch c.args.memory.now c.accesses.memory c.accesses.stores.writers h c.accesses.nearest c.accesses.invariant.following c.requires.before c.requires.epoch
+    kept_after image c.args.epoch c.args.memory.now c.accesses.memory c.accesses.stores.writers h c.accesses.nearest c.accesses.invariant.following c.requires.before c.requires.run.within
     (elim c.in-Ended.is [ inl ended ↦ rw (at ∙ ended) tt | inr fault ↦ rw (at ∙ fault.2) tt ])
 
 pub returns-in-Ended-clause-lasts : goal.returns-in-Ended-clause-lasts

@@ -18,7 +18,7 @@ use Rattle.dependences.proofs.stores.follow.Goals as goal
 pub accesses-init : goal.accesses-init
 accesses-init c = record {
   storing = rw c.start-hart.ensures
-      (storing_start c.args.image.now (piece_in c.args.pieces c.args.image.now) c.args.epoch c.args.memory.now c.args.noted.now.list.items c.requires.size c.requires.before c.requires.kept);
+      (storing_start c.args.image.now (piece_in c.args.pieces c.args.image.now) c.args.epoch c.args.memory.now c.args.noted.now.list.items c.requires.run.size c.requires.before c.requires.kept);
   within = rw c.start-hart.ensures (omega arith);
   long = refl;
   fresh = λ a. omega (arith, c.requires.fresh a);
@@ -63,22 +63,22 @@ accesses-preserved c =
     let is : (next_event image h).at ≡ stop.Store c.in-Store.addr c.in-Store.width c.in-Store.value = sym c.advance-arrived.ensures.at ∙ (sym c.at.ensures.at ∙ c.in-Store.is) in
     let hart : c.stored-hart.result ≡ stepped (next_event image h).now = rw c.advance-arrived.ensures.now at c.stored-hart.ensures in
     let next = storing_store image (piece_in c.args.pieces image) c.args.epoch c.accesses.memory h c.accesses.noted.list.items c.note.new.noted.list.items c.accesses.invariant.storing
-    c.in-Store.addr c.in-Store.width c.in-Store.value is c.in_ok-note-in-Store.ensures.more in
+    c.in-Store.addr c.in-Store.width c.in-Store.value is (rw c.of-at.ensures at c.in_ok-note-in-Store.ensures.more) in
     let store : IsStore image (next_event image h).now c.in-Store.addr c.in-Store.width c.in-Store.value = rw is at (stop_of_event image h) in
     let room = store.access.room in
     record {
       storing = rw (c.write_number.ensures, hart) next;
       within = rw hart (omega (arith, room));
       long = c.note.ensures.long ∙ c.accesses.invariant.long;
-      fresh = c.note.ensures.fresh;
-      noted = c.in_ok-note-in-Store.ensures.noted;
+      fresh = rw c.of-at.ensures at c.note.ensures.fresh;
+      noted = rw c.of-at.ensures at c.in_ok-note-in-Store.ensures.noted;
     }
 
 pub returns-in-Ended-clause-kept : goal.returns-in-Ended-clause-kept
 returns-in-Ended-clause-kept c =
     let image = c.args.image.now in
     let is : (next_event image c.accesses.hart).at ≡ stop.Ended = sym c.advance-arrived.ensures.at ∙ (sym c.at.ensures.at ∙ c.in-Ended.is) in
-    stored_before image (piece_in c.args.pieces image) c.args.epoch c.accesses.memory c.accesses.hart c.accesses.noted.list.items c.accesses.invariant.storing c.requires.epoch
+    stored_before image (piece_in c.args.pieces image) c.args.epoch c.accesses.memory c.accesses.hart c.accesses.noted.list.items c.accesses.invariant.storing c.requires.run.within
     (runs_in_order image c.args.epoch c.args.memory.now c.requires.before) (rw is tt)
 
 pub returns-in-Ended-clause-goes_on : goal.returns-in-Ended-clause-goes_on
@@ -103,7 +103,7 @@ pub returns-in-Fault-clause-kept : goal.returns-in-Fault-clause-kept
 returns-in-Fault-clause-kept c =
     let image = c.args.image.now in
     let is : (next_event image c.accesses.hart).at ≡ stop.Fault c.in-Fault.cause c.in-Fault.pc = sym c.advance-arrived.ensures.at ∙ (sym c.at.ensures.at ∙ c.in-Fault.is) in
-    stored_before image (piece_in c.args.pieces image) c.args.epoch c.accesses.memory c.accesses.hart c.accesses.noted.list.items c.accesses.invariant.storing c.requires.epoch
+    stored_before image (piece_in c.args.pieces image) c.args.epoch c.accesses.memory c.accesses.hart c.accesses.noted.list.items c.accesses.invariant.storing c.requires.run.within
     (runs_in_order image c.args.epoch c.args.memory.now c.requires.before) (rw is tt)
 
 pub returns-in-Fault-clause-ends : goal.returns-in-Fault-clause-ends

@@ -1,10 +1,17 @@
 -- The lines of an epoch that others touch, and what a buffer takes of these.
 -- Source: this project; that a buffer lists just the lines that other caches may hold is of Steffan, Colohan, Zhai and Mowry, "A
 -- Scalable Approach to Thread-Level Speculation", ISCA 2000.
-use Rattle.std.specs.Prelude.{◌≢◌, ◌⊎◌, ℕ, ◌≤◌, List, length, All}
+use Rattle.std.specs.Prelude.{◌≡◌, ◌≢◌, ◌⊎◌, ℕ, ◌≤◌, List, length, All}
 use Rattle.rv32_image.specs.Image.{LoadedImage}
-use Rattle.dependences.specs.Conflict.{AreBeside, AreFalling, StoresIn, path_memory}
-use Rattle.dependences.specs.KeptTouches.{TouchesIn}
+use Rattle.spec_history.specs.Conflict.{line_number}
+use Rattle.dependences.specs.Paths.{Touches}
+use Rattle.dependences.specs.Conflict.{AreBeside, AreFalling, LineConflict, StoresIn, path_memory, run_memory}
+
+-- the epoch loads or stores in this line
+pub record TouchesIn (image : LoadedImage) (epoch : ℕ) (memory : List ℕ) (line : ℕ) : Type 0 where
+  pub at : ℕ
+  pub in_line : line_number image at ≡ line
+  pub touches : Touches image epoch memory at
 
 -- so many cores can run both epochs at a time, whichever is the earlier one
 abbrev pub RunBeside : LoadedImage → ℕ → ℕ → ℕ → Type 0
@@ -33,3 +40,12 @@ pub record SharedOverflowOver (image : LoadedImage) (cores : ℕ) (memory : ℕ 
 -- so on the paths of the epochs
 abbrev pub SharedOverflow : LoadedImage → ℕ → Type 0
 SharedOverflow image cores = SharedOverflowOver image cores (path_memory image cores)
+
+-- and so in order, where one run shows it
+abbrev pub SharedOverflowInOrder : LoadedImage → ℕ → Type 0
+SharedOverflowInOrder image cores = SharedOverflowOver image cores (run_memory image cores)
+
+-- on their paths no two epochs conflict over lines of the caches, and none stores in more shared lines than its buffer takes
+pub record AreApart (image : LoadedImage) (cores : ℕ) : Type 0 where
+  pub lines : LineConflict image cores → ⊥
+  pub buffers : SharedOverflow image cores → ⊥
