@@ -120,6 +120,16 @@ claimed_length bus core addr offset width room = pick (owns bus core addr)
     pick true = rw (itself core) refl
     pick false = rw (itself core) refl
 
+-- and there are as many cores
+pub claimed_count : (bus : Bus) (core addr offset width : ℕ) (room : Option Room)
+    → (after_claim bus core addr offset width room).shape.cores ≡ bus.shape.cores
+claimed_count bus core addr offset width room = pick (owns bus core addr)
+  where
+    pick : (b : Bool) → (cond b (kept_line bus core addr (store_next bus core addr offset width))
+        (after_message bus (message_of bus Store core addr) (room_for bus core addr room) (store_next bus core addr offset width))).shape.cores ≡ bus.shape.cores
+    pick true = refl
+    pick false = refl
+
 -- a store that is answered
 pub stored_bytes : (old mid : Parts) (cores : List Core) (core addr offset width value : ℕ) (room : Option Room) (hurt : ℕ → Bool)
     → IsTaken (bus_in old) (bus_in mid) core addr offset width room hurt → length cores ≡ length mid.cores.items

@@ -1,5 +1,5 @@
 -- What a core holds after its parts change.
-use Rattle.std.proofs.Common.{◌≡◌, ◌≢◌, ℕ, ◌<◌, ◌≤◌, nat_lt, ◌==◌, ◌&&◌, length, slice_get, slice_set, Bool, true, false, cond, List, Option, Some, None, slice_index, refl, sym, ap, ◌∙◌, arith}
+use Rattle.std.proofs.Common.{◌≡◌, ◌≢◌, ℕ, ◌<◌, ◌≤◌, nat_lt, ◌==◌, ◌&&◌, length, slice_get, slice_set, Bool, true, false, cond, List, Option, Some, None, slice_index, refl, sym, ap, subst, ◌∙◌, arith, ne_eqb}
 use Rattle.std.proofs.Math.Path.{fun_ext}
 use Rattle.std.proofs.lemmas.Bool.Decides.{nat_tests}
 use Rattle.spec_states.specs.declared.next.Next.{Next}
@@ -15,7 +15,7 @@ use Rattle.std.proofs.lemmas.List.{length-set, get_or-set_other}
 use Rattle.std.proofs.lemmas.Grind.{get_or-set_at}
 use Rattle.std.proofs.lemmas.Option.{slice_get_past, slice_get-get_or}
 use Rattle.std.proofs.Math.ListN.{get_or}
-use Rattle.bus_states.specs.Bus.{CoreState}
+use Rattle.bus_states.specs.Bus.{CoreState, no_core}
 use Rattle.spec_bus.specs.declared.bus_core.Core.{Core}
 use Rattle.spec_bus.specs.CoreStates.{state_of}
 use Rattle.spec_bus.specs.Parts.{room_in, state_or_none, core_at, line_or_none, line_at}
@@ -165,12 +165,37 @@ state_set cores k core lt j = rw (get_set cores k j core lt) (choice (j == k) (s
     choice true other = refl
     choice false other = refl
 
--- one core is filled
-pub one_filled : (cores : List Core) (k addr way : ℕ) (old new : Core) (next : Next) (cell : ℕ → ℕ) → k < length cores → old ≡ get_or cores k old
-    → state_of new ≡ changed_core addr next cell (without_line addr (Some (room_in old.cache addr way)) (state_of old)) → (j : ℕ)
-    → core_at (slice_set cores k new) j
-    ≡ cond (j == k) (changed_core addr next cell (without_line addr (line_at cores k addr (Some way)) (core_at cores k))) (core_at cores j)
-one_filled cores k addr way old new next cell lt e filled j =
-    state_set cores k new lt j
-    ∙ ap (λ (state : CoreState). cond (j == k) state (core_at cores j))
-    (filled ∙ rw (← line_get cores k addr way old lt e, ← state_get cores k old lt e) refl)
+-- one core of the list is this one now
+pub record IsCoreSet (old new : List Core) (k : ℕ) (state : CoreState) : Type 0 where
+  pub count : length new ≡ length old
+  pub others : (j : ℕ) → j ≢ k → slice_get new j ≡ slice_get old j
+  pub core : (j : ℕ) → core_at new j ≡ cond (j == k) state (core_at old j)
+
+-- it has changed so
+pub core_set : (cores : List Core) (k : ℕ) (old new : Core) (change : CoreState → CoreState) → k < length cores → old ≡ get_or cores k old
+    → state_of new ≡ change (state_of old) → IsCoreSet cores (slice_set cores k new) k (change (core_at cores k))
+core_set cores k old new change lt e changed =
+    record {
+      count = length-set cores k new;
+      others = λ j away. get_set cores k j new lt ∙ rw (ne_eqb j k away) refl;
+      core =
+          λ j. state_set cores k new lt j
+          ∙ ap (λ (state : CoreState). cond (j == k) state (core_at cores j)) (changed ∙ ap change (state_get cores k old lt e));
+    }
+
+-- a line has come into it
+pub core_filled : (cores : List Core) (k addr way : ℕ) (old new : Core) (next : Next) (cell : ℕ → ℕ) → k < length cores → old ≡ get_or cores k old
+    → state_of new ≡ changed_core addr next cell (without_line addr (Some (room_in old.cache addr way)) (state_of old))
+    → IsCoreSet cores (slice_set cores k new) k (changed_core addr next cell (without_line addr (line_at cores k addr (Some way)) (core_at cores k)))
+core_filled cores k addr way old new next cell lt e filled =
+    core_set cores k old new (λ (core : CoreState). changed_core addr next cell (without_line addr (line_at cores k addr (Some way)) core)) lt e
+    (filled ∙ rw (← line_get cores k addr way old lt e) refl)
+
+-- a core that stands where it stood
+pub core_same : (old mid : List Core) (k : ℕ) (core : Core) → length mid ≡ length old → slice_get mid k ≡ slice_get old k → k < length old
+    → core ≡ get_or mid k core → state_of core ≡ core_at old k
+core_same old mid k core count own lt e = state_get mid k core (subst (λ n. k < n) (sym count) lt) e ∙ ap state_or_none own
+
+-- past the last core there is none
+pub core_past : (cores : List Core) (k : ℕ) → length cores ≤ k → core_at cores k ≡ no_core
+core_past cores k past = ap state_or_none (slice_get_past cores k past)

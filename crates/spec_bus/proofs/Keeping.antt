@@ -41,7 +41,6 @@ cached old new after h moves coherent ordered shape =
     record {
       coherent = subst (λ (bus : Bus). IsCoherent bus) (sym moves) coherent;
       ordered = subst (λ (bus : Bus). AreOrdered bus) (sym moves) ordered;
-      few = subst (λ (shape : Shape). shape.cores ≤ 16) (sym same) h.few;
       small = subst (λ (shape : Shape). shape.size ≤ 134217728) (sym same) h.small;
     }
 

@@ -1,7 +1,12 @@
 -- The bus after a message, and after a change that nobody is told of.
-use Rattle.std.proofs.Common.{◌≡◌, ℕ, ◌+◌, ◌≤◌, ◌%◌, ◌==◌, Bool, true, false, cond, length, List, Option, Some, None, slice_get, slice_index, refl, sym, ap, ◌∙◌}
+use Rattle.std.proofs.Common.{◌≡◌, ℕ, ◌+◌, ◌<◌, ◌≤◌, ◌%◌, ◌==◌, ◌&&◌, Bool, true, false, cond, length, List, Option, Some, None, slice_get, slice_index, refl, sym, ap, subst, ◌∙◌}
 use Rattle.std.proofs.Math.Path.{fun_ext}
+use Rattle.spec_states.specs.declared.line.LineState.{LineState}
+use Rattle.spec_states.specs.declared.line.LineState.TheVariants.{I, S, E, M, SpS, SpE}
+use Rattle.spec_states.specs.declared.line.Marks.{Marks}
 use Rattle.spec_states.specs.declared.next.Next.{Next}
+use Rattle.spec_states.specs.Mask.{IsWithinLine}
+use Rattle.spec_states.specs.Rows.{requires_ownership}
 use Rattle.spec_states.specs.Copies.{LineCopy}
 use Rattle.spec_states.specs.States.{is_valid, is_modified}
 use Rattle.spec_states.proofs.RowLaws.{modified-valid}
@@ -17,7 +22,8 @@ use Rattle.bus_states.specs.Messages.{Room, Message, changed_core, without_line,
 use Rattle.bus_states.specs.Speculative.{kept_line}
 use Rattle.spec_bus.specs.declared.bus_core.Core.{Core}
 use Rattle.spec_bus.specs.declared.parts.Parts.{Parts}
-use Rattle.spec_bus.specs.CoreStates.{state_of}
+use Rattle.orb.specs.Lines.{holds, is_full}
+use Rattle.spec_bus.specs.CoreStates.{state_of, MayChange}
 use Rattle.spec_bus.specs.Parts.{bus_of, bus_in, core_at, line_at, state_or_none, line_or_none, IsTold}
 
 abbrev pub bus_record : ℕ → ℕ → ℕ → Machine → (ℕ → CoreState) → (ℕ → ℕ) → Bus
@@ -29,6 +35,33 @@ pub same_bus : (cores cores2 size size2 code code2 : ℕ) (machine machine2 : Ma
     → cores ≡ cores2 → size ≡ size2 → code ≡ code2 → machine ≡ machine2 → ((k : ℕ) → core k ≡ core2 k) → ((p : ℕ) → memory p ≡ memory2 p)
     → bus_record cores size code machine core memory ≡ bus_record cores2 size2 code2 machine2 core2 memory2
 same_bus cores cores2 size size2 code code2 machine machine2 core core2 memory memory2 e f g i h j = rw (e, f, g, i, fun_ext h, fun_ext j) refl
+
+-- ---- what a core needs, to take a line or to change it
+
+invalid-free : (s : LineState) (marks : Marks) → is_valid s ≡ false → requires_ownership s marks ≡ false
+invalid-free I marks e = refl
+invalid-free S marks e = cc
+invalid-free E marks e = cc
+invalid-free M marks e = cc
+invalid-free SpS marks e = cc
+invalid-free SpE marks e = cc
+
+-- the mask of the change lies within the core's lines
+pub may_change : (bus : Bus) (k addr : ℕ) (next : Next) → IsCoherent bus → k < bus.shape.cores
+    → IsWithinLine bus.line_length next.marks.bytes → (next.enters ≡ true → holds (bus.core k).buffer.lines addr ≡ false)
+    → (next.enters && is_full (bus.core k).buffer) ≡ false → MayChange (bus.core k) addr next
+may_change bus k addr next h inside mask entry room =
+    record { mask = subst (λ n. IsWithinLine n next.marks.bytes) (sym (h.lengths k inside)) mask; entry = entry; room = room }
+
+-- a line that the core does not hold is not in its buffer
+pub may_fill : (bus : Bus) (k addr : ℕ) (next : Next) → IsCoherent bus → k < bus.shape.cores
+    → is_valid ((bus.core k).copy addr).state ≡ false → IsWithinLine bus.line_length next.marks.bytes
+    → (next.enters && is_full (bus.core k).buffer) ≡ false → MayChange (bus.core k) addr next
+may_fill bus k addr next h inside absent mask room =
+    may_change bus k addr next h inside mask
+    (λ e. (h.cores k).listed addr ∙ invalid-free ((bus.core k).copy addr).state ((bus.core k).copy addr).marks absent) room
+
+-- ---- what the bus is then
 
 -- the victim, where it is M, is a line of memory
 pub victim_inside : (bus : Bus) (k : ℕ) (core : Core) (line : Line) → IsCoherent bus → state_of core ≡ bus.core k

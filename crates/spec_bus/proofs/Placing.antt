@@ -4,8 +4,8 @@ use Rattle.memory_bytes.specs.Bytes.{IsWidth}
 use Rattle.rv32_image.specs.declared.apart.Apart.{Apart}
 use Rattle.rv32_image.specs.Image.{LoadedImage}
 use Rattle.rv32_image.specs.Machine.{IsMachineFor}
-use Rattle.rv32_image.specs.Places.{place}
-use Rattle.rv32_image.proofs.Bounds.{by_length}
+use Rattle.rv32_image.specs.declared.machine.Machine.{Machine}
+use Rattle.rv32_image.specs.Places.{place, of_places}
 use Rattle.rv32_image.proofs.Places.{place-none, place-one, place-inside, place-past, place-word, place-aligned, place-found}
 use Rattle.violations.specs.declared.step.Step.{Step}
 use Rattle.violations.specs.declared.step.Step.TheVariants.{Done, Wait}
@@ -13,23 +13,24 @@ use Rattle.violations.specs.Answers.{MatchStep}
 use Rattle.violations.specs.CoreSet.{is_in}
 use Rattle.violations.specs.Relabelled.{relabelled, IsRelabelling, OwnsBytes}
 use Rattle.violations.specs.Rule.{IsFresh, Begins, Ends, Loads, Stores, Publishes, LoadsStraight, StoresStraight}
-use Rattle.violations.specs.View.{Shape, StoreView, IsCommitted, IsSettled, IsLoad, Runs, MayBegin, MayPublish}
+use Rattle.violations.specs.View.{Shape, StoreView, IsCommitted, IsSettled, IsLoad, Runs, MayBegin, MayPublish, attempt_of}
 use Rattle.violations.proofs.Relabelling
 use Rattle.bus_states.specs.Bus.{Bus, line_of, offset_of}
+use Rattle.bus_states.specs.Coherent.{speculates}
 use Rattle.bus_states.specs.Views.{view_of}
-use Rattle.bus_states.proofs.Addresses.{line-aligned, offset-aligned}
+use Rattle.bus_states.proofs.Addresses.{line-aligned, line-inside, offset-aligned}
 use Rattle.bus_states.proofs.InLine.{lies-in_line}
 use Rattle.bus_states.proofs.AttemptRules.{IsOpened, opened-coherent, opened-is_fresh, opened-ordered}
-use Rattle.bus_states.proofs.Ordered.{settled}
+use Rattle.bus_states.proofs.Ordered.{runs-there, settled}
+use Rattle.spec_bus.specs.declared.bus_core.Core.{Core}
 use Rattle.spec_bus.specs.declared.parts.Parts.{Parts}
 use Rattle.spec_bus.specs.Cached.{CachedView, shape_over, seen}
 use Rattle.spec_bus.specs.CachedInside as inside
 use Rattle.spec_bus.specs.CachedInside.{IsBus, ArePlaces}
-use Rattle.spec_bus.specs.Fresh.{fresh_bus, by_places}
-use Rattle.spec_states.specs.declared.line.TheConstants.{LONGEST_LINE}
-use Rattle.spec_bus.specs.Parts.{bus_in, IsAccessIn}
-use Rattle.spec_bus.proofs.Idle.{fresh_opened}
-use Rattle.spec_bus.proofs.Laying.{by_places-byte, of_places-fits}
+use Rattle.spec_bus.specs.Fresh.{fresh_bus, by_places, AreIdle}
+use Rattle.spec_bus.specs.Parts.{bus_in, bus_of, IsAccessIn, IsStraightIn}
+use Rattle.spec_bus.proofs.Idle.{fresh_is, fresh_opened}
+use Rattle.spec_bus.proofs.Laying.{by_places-byte, by_places-length, of_places-fits}
 
 -- the shape of the store over this bus, and its places
 abbrev pub shape_of : ℕ → Option Apart → Parts → Shape
@@ -95,17 +96,35 @@ pub ends_in_line : (parts : Parts) (p width : ℕ) → IsBus parts → IsLoad (b
     → offset_of parts.machine.line_length p + width ≤ parts.machine.line_length
 ends_in_line parts p width b access = (lies-in_line parts.machine.line_length (bus_in parts).shape p width b.coherent.length_is b.coherent.whole_lines access).ends
 
+-- its line is one of memory
+line_inside : (parts : Parts) (p width line : ℕ) → IsBus parts → IsLoad (bus_in parts).shape p width
+    → line ≡ line_of parts.machine.line_length p → line + parts.machine.line_length ≤ length parts.memory.items
+line_inside parts p width line b access is =
+    subst (λ l. l + parts.machine.line_length ≤ length parts.memory.items) (sym is)
+    (line-inside parts.machine.line_length (length parts.memory.items) p b.coherent.length_is b.coherent.whole_lines
+    (access_within (bus_in parts).shape p width access))
+
 pub access_in : (parts : Parts) (core p width line : ℕ) → IsBus parts → core < length parts.cores.items → IsLoad (bus_in parts).shape p width
     → line ≡ line_of parts.machine.line_length p → IsAccessIn parts core line (offset_of parts.machine.line_length p) width
 access_in parts core p width line b there access is = record {
   there = there;
-  short = by_length (λ n. n ≤ LONGEST_LINE) parts.machine.line_length b.coherent.length_is (omega arith) (omega arith) (omega arith);
   line = ap (λ l. l % parts.machine.line_length) is ∙ line-aligned parts.machine.line_length p b.coherent.length_is;
   coherent = b.coherent;
+  inside = line_inside parts p width line b access is;
   in_line = ends_in_line parts p width b access;
   wide = access.wide;
   aligned = offset-aligned parts.machine.line_length p width b.coherent.length_is access.wide access.aligned;
 }
+
+-- and a core whose attempt is straight doesn't speculate
+pub straight_in : (parts : Parts) (core p width line : ℕ) → IsBus parts → Runs (view_of (bus_in parts)) core true
+    → IsLoad (bus_in parts).shape p width → line ≡ line_of parts.machine.line_length p
+    → IsStraightIn parts core line (offset_of parts.machine.line_length p) width
+straight_in parts core p width line b runs access is =
+    record {
+      access = access_in parts core p width line b (runs-there (bus_in parts) core (attempt_of runs.epoch true) b.coherent runs.is) access is;
+      straight = ap speculates runs.is;
+    }
 
 -- what a call asks of the store, it asks of the bus
 pub runs_under : (size : ℕ) (apart : Option Apart) (parts : Parts) (core : ℕ) (straight : Bool) → Runs (seen size apart (view_of (bus_in parts))) core straight
@@ -267,17 +286,28 @@ module _ (image : LoadedImage) (cores : ℕ) (fits : IsMachineFor image.size ima
   pub fresh-opened : IsOpened made_bus (by_places image) cores
   fresh-opened = fresh_opened (by_places image) cores (of_places-fits image.machine image.size fits) refl
 
+  -- idle cores, and the image's memory by places
+  pub fresh-made : (code : ℕ) (machine : Machine) (idle : List Core) (memory : List ℕ) → length idle ≡ cores → AreIdle (of_places machine) idle
+      → memory ≡ (by_places image).bytes → code ≡ image.code → machine ≡ image.machine → bus_of code (of_places machine) idle memory ≡ made_bus
+  fresh-made code machine idle memory count are_idle bytes code_is is =
+      fresh_is (by_places image) cores code (of_places machine) idle memory count (ap length bytes ∙ by_places-length image fits long) code_is
+      (ap of_places is) bytes (subst (λ (m : Machine). AreIdle m idle) (ap of_places is) are_idle)
+
   -- its store is new
-  pub fresh-seen : IsFresh image cores (seen image.size image.machine.apart (view_of made_bus))
-  fresh-seen =
-      let new = opened-is_fresh made_bus (by_places image) cores fresh-opened in record {
+  pub fresh-seen : (size : ℕ) (apart : Option Apart) (bus : Bus) → size ≡ image.size → apart ≡ image.machine.apart → bus ≡ made_bus
+      → IsFresh image cores (seen size apart (view_of bus))
+  fresh-seen size apart bus size_is apart_is is =
+      let new = opened-is_fresh made_bus (by_places image) cores fresh-opened in
+      subst (λ n. IsFresh image cores (seen n apart (view_of bus))) (sym size_is)
+      (subst (λ (a : Option Apart). IsFresh image cores (seen image.size a (view_of bus))) (sym apart_is)
+      (subst (λ (b : Bus). IsFresh image cores (seen image.size image.machine.apart (view_of b))) (sym is) (record {
         shape = refl;
         committed = λ a. new.committed (place image.machine image.size a) ∙ by_places-byte image fits long a;
         idle = new.idle;
-      }
+      })))
 
-  pub fresh-places : image.size ≤ 1048576 → (parts : Parts) → bus_in parts ≡ made_bus → ArePlaces image.size image.machine.apart parts
-  fresh-places small parts is =
+  in_places : image.size ≤ 1048576 → (parts : Parts) → bus_in parts ≡ made_bus → ArePlaces image.size image.machine.apart parts
+  in_places small parts is =
       let new = opened-is_fresh made_bus (by_places image) cores fresh-opened in
       let keeps = settled made_bus (opened-coherent made_bus (by_places image) cores fresh-opened) (opened-ordered made_bus (by_places image) cores fresh-opened) in record {
         fits = subst (λ (b : Bus). IsMachineFor image.size (shape_over image.size image.machine.apart b.shape).machine) (sym is) fits;
@@ -287,3 +317,9 @@ module _ (image : LoadedImage) (cores : ℕ) (fits : IsMachineFor image.size ima
             subst (λ (b : Bus). OwnsBytes (place (shape_over image.size image.machine.apart b.shape).machine image.size) (view_of b)) (sym is)
             (record { none = λ k p none. (keeps.idle k (new.idle k)).own p });
       }
+
+  pub fresh-places : image.size ≤ 1048576 → (size : ℕ) (apart : Option Apart) (parts : Parts) → size ≡ image.size
+      → apart ≡ image.machine.apart → bus_in parts ≡ made_bus → ArePlaces size apart parts
+  fresh-places small size apart parts size_is apart_is is =
+      subst (λ n. ArePlaces n apart parts) (sym size_is)
+      (subst (λ (a : Option Apart). ArePlaces image.size a parts) (sym apart_is) (in_places small parts is))

@@ -7,7 +7,7 @@ use Rattle.bus_states.specs.declared.notice.Notice.TheVariants.{Publish}
 use Rattle.bus_states.specs.Bus.{CoreState, Bus, sees}
 use Rattle.bus_states.specs.Coherent.{IsCoherent}
 use Rattle.bus_states.specs.Messages.{message_of, violates, after_message}
-use Rattle.bus_states.specs.Straight.{released, publish_next, after_publish_line, after_publish_lines, lines_violate}
+use Rattle.bus_states.specs.Straight.{released, publish_next, after_publish, after_publish_line, after_publish_lines, after_settling, lines_violate, settled_core}
 use Rattle.bus_states.proofs.Publishing.{AreListed, first-listed, rest-listed, publish_line-coherent}
 use Rattle.spec_bus.specs.declared.bus_core.Core.{Core}
 use Rattle.spec_bus.specs.declared.parts.Parts.{Parts}
@@ -16,7 +16,7 @@ use Rattle.spec_bus.proofs.Moving.{same_bus}
 
 -- ---- one line
 
-abbrev released_core : ℕ → CoreState → CoreState
+abbrev pub released_core : ℕ → CoreState → CoreState
 released_core addr core = record core { buffer = record core.buffer { lines = without addr core.buffer.lines } }
 
 -- the line is sent, and leaves the buffer
@@ -130,6 +130,15 @@ publishing_less mid new core addr h inside first is =
         let after : ((after_publish_line mid core addr).core core).buffer.lines ≡ rest =
         (rest-listed mid core addr rest h (record { in_cores = inside; are = are })).are in
         rw (after, are) (omega arith)
+
+-- and the core settles what it holds beside them
+pub lines_settled : (old mid : Parts) (cores : List Core) (core : ℕ)
+    → bus_in mid ≡ after_publish_lines (bus_in old) core ((bus_in old).core core).buffer.lines → length cores ≡ length mid.cores.items
+    → ((j : ℕ) → core_at cores j ≡ cond (j == core) (settled_core (core_at mid.cores.items core)) (core_at mid.cores.items j))
+    → bus_of mid.code mid.machine cores mid.memory.items ≡ after_publish (bus_in old) core
+lines_settled old mid cores core lines count is_core =
+    same_bus _ _ _ _ _ _ _ _ _ _ _ _ count refl refl refl is_core (λ p. refl)
+    ∙ ap (λ (bus : Bus). after_settling bus core) lines
 
 -- the first line of a buffer is there
 pub first_there : (lines : List ℕ) (addr : ℕ) → slice_get lines 0 ≡ Some addr → holds lines addr ≡ true

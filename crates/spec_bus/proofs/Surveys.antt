@@ -3,8 +3,7 @@ use Rattle.std.proofs.Common.{◌≡◌, ℕ, ◌+◌, ◌≤◌, ◌==◌, ◌|
 use Rattle.std.proofs.lemmas.Bool.Decides.{nat_tests}
 use Rattle.spec_states.specs.Copies.{LineCopy}
 use Rattle.spec_states.specs.States.{is_modified}
-use Rattle.bus_states.specs.Bus.{Bus, some_core, committed_among}
-use Rattle.bus_states.specs.Coherent.{IsCoherent}
+use Rattle.bus_states.specs.Bus.{Bus, no_core, some_core, committed_among}
 use Rattle.bus_states.proofs.Heard.{absent-unviolated}
 use Rattle.bus_states.specs.Messages.{Message, violates, holds_up, remains}
 use Rattle.spec_bus.proofs.CommittedMemory.{some-more}
@@ -58,12 +57,13 @@ committed_none copies memory x = refl
 
 -- every core is surveyed
 pub surveyed_all : (bus : Bus) (message : Message) (n : ℕ) (hurt : ℕ → Bool) (busy shared : Bool)
-    → IsSurveyed bus message n hurt busy shared → IsCoherent bus → bus.shape.cores ≤ n → (k : ℕ) → hurt k ≡ violates bus message k
-surveyed_all bus message n hurt busy shared h coherent all k =
+    → IsSurveyed bus message n hurt busy shared → ((k : ℕ) → bus.shape.cores ≤ k → bus.core k ≡ no_core) → bus.shape.cores ≤ n
+    → (k : ℕ) → hurt k ≡ violates bus message k
+surveyed_all bus message n hurt busy shared h absent all k =
     h.hurt_are k
     ∙ elim (nat_lt k n) as (λ b. nat_lt k n ≡ b → (b && violates bus message k) ≡ violates bus message k) [
       | true ↦ λ e. refl
       | false ↦ λ e.
           let past : bus.shape.cores ≤ k = grind (arith, nat_tests) in
-          sym (absent-unviolated bus message k (coherent.absent k past))
+          sym (absent-unviolated bus message k (absent k past))
     ] refl

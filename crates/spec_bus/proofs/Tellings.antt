@@ -92,12 +92,16 @@ step n k s x y z apart here there =
     same : (b : Bool) → (k == n) ≡ false → (nat_lt k (n + 1) && not b) ≡ (nat_lt k n && not b)
     same b e = grind (arith, nat_tests)
 
--- a core has heard, and is then as the message makes it
+-- a core that hears the message: it runs a later epoch or not, and is violated or not
+abbrev pub heard_by : Message → Bool → Bool → CoreState → CoreState
+heard_by message later violated core =
+    heard message.addr violated (reply_to message.notice (core.copy message.addr).state (core.copy message.addr).marks (order later))
+    (bytes_after message.notice (reply_to message.notice (core.copy message.addr).state (core.copy message.addr).marks (order later)).marks.bytes (core.copy message.addr).cell message.line) core
+
+-- it is then as the message makes it
 pub heard_is : (bus : Bus) (message : Message) (k : ℕ) (core : CoreState) (later violated : Bool) → core ≡ bus.core k
     → later ≡ is_later bus message.sender k → violated ≡ violates bus message k
-    → heard message.addr violated (reply_to message.notice (core.copy message.addr).state (core.copy message.addr).marks (order later))
-    (bytes_after message.notice (reply_to message.notice (core.copy message.addr).state (core.copy message.addr).marks (order later)).marks.bytes (core.copy message.addr).cell message.line) core
-    ≡ heard_core bus message k
+    → heard_by message later violated core ≡ heard_core bus message k
 heard_is bus message k core later violated e f g = rw (e, f, g) refl
 
 pub heard_more : (n : ℕ) (old mid new : Parts) (message : Message) (core : CoreState) → AreTelling old mid message n → n ≢ message.sender

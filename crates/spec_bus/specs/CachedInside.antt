@@ -23,11 +23,10 @@ view_of i =
       memory = i.parts.memory.items;
     }
 
--- the bus is coherent, its attempts are ordered, and it is not large
+-- the bus is coherent, its attempts are ordered, and its memory is not large
 pub record IsBus (parts : Parts) : Type 0 where
   pub coherent : IsCoherent (bus_in parts)
   pub ordered : AreOrdered (bus_in parts)
-  pub few : length parts.cores.items ≤ 16
   pub small : length parts.memory.items ≤ 134217728
 
 -- its bytes are the places of a memory of so many bytes, and cores own no others

@@ -2,6 +2,7 @@
 use Rattle.std.specs.Prelude.{◌≡◌, ℕ, ◌+◌, ◌*◌, ◌/◌, ◌%◌, ◌≤◌, ◌==◌, ◌&&◌, Bool, true, false, if◌then◌else◌}
 use Rattle.spec_states.specs.declared.next.Next.{Next}
 use Rattle.spec_states.specs.Copies.{no_copy, IsMarked}
+use Rattle.spec_states.specs.Mask.{IsWithinLine}
 use Rattle.spec_states.specs.States.{is_speculative, is_modified}
 use Rattle.cache_lines.specs.declared.line.Line.{Line}
 use Rattle.cache_lines.specs.Lines.{Contents, line_in, way_at}
@@ -33,6 +34,13 @@ pub record MayHear (core : CoreState) (addr : ℕ) (violated : Bool) (next : Nex
   pub marked : is_speculative (core.copy addr).state ≡ true → IsMarked (core.copy addr).marks
   pub entry : violated ≡ false → next.enters ≡ true → holds core.buffer.lines addr ≡ false
   pub room : violated ≡ false → (next.enters && is_full core.buffer) ≡ false
+
+-- a core's copy of this line may change so: the mask of the change lies within a line, and where the line enters the core's buffer,
+-- it is not there and has room
+pub record MayChange (core : CoreState) (addr : ℕ) (next : Next) : Type 0 where
+  pub mask : IsWithinLine core.line_length next.marks.bytes
+  pub entry : next.enters ≡ true → holds core.buffer.lines addr ≡ false
+  pub room : (next.enters && is_full core.buffer) ≡ false
 
 -- the line in this place of a cache, counted set by set, and in a set way by way
 abbrev pub line_in_place : Contents → ℕ → Line

@@ -1,15 +1,16 @@
 -- What the parts of the machine hold, as a bus.
 use Rattle.memory_bytes.specs.Bytes.{IsWidth}
-use Rattle.spec_states.specs.declared.line.TheConstants.{LONGEST_LINE}
 use Rattle.bus_states.specs.declared.notice.Notice.{Notice}
-use Rattle.bus_states.specs.Coherent.{IsCoherent}
+use Rattle.bus_states.specs.Coherent.{IsCoherent, speculates}
 use Rattle.std.specs.Prelude.{◌+◌, ◌%◌, ◌<◌, ◌≤◌, ◌≡◌, ◌==◌, if◌then◌else◌, ℕ, Bool, false, List, length, Option, Some, None, option_map, slice_get, slice_index}
 use Rattle.rv32_image.specs.declared.machine.Machine.{Machine}
+use Rattle.violations.specs.CoreSet.{is_in}
 use Rattle.cache_lines.specs.Changes.{victim_of}
 use Rattle.cache_lines.specs.Lines.{Contents, geometry_of, line_in}
 use Rattle.bus_states.specs.Bus.{CoreState, Bus, no_core}
 use Rattle.bus_states.specs.Messages.{Room, Message, heard_core, is_busy, message_of, violates}
 use Rattle.spec_bus.specs.declared.bus_core.Core.{Core}
+use Rattle.spec_bus.specs.declared.messages.Sent.{Sent}
 use Rattle.spec_bus.specs.declared.parts.Parts.{Parts}
 use Rattle.spec_bus.specs.CoreStates.{state_of}
 
@@ -58,10 +59,14 @@ pub record IsTold (old new : Bus) (message : Message) : Type 0 where
   pub count : new.shape.cores ≡ old.shape.cores
   pub core : (k : ℕ) → new.core k ≡ (if k == message.sender then old.core k else heard_core old message k)
 
--- a core, and the address of a line, on a coherent bus of at most sixteen cores
+-- a core of a coherent bus
+pub record IsOnBus (p : Parts) (core : ℕ) : Type 0 where
+  pub there : core < length p.cores.items
+  pub coherent : IsCoherent (bus_in p)
+
+-- such a core, and the address of a line
 pub record IsAtLine (p : Parts) (core addr : ℕ) : Type 0 where
   pub there : core < length p.cores.items
-  pub few : length p.cores.items ≤ 16
   pub line : addr % p.machine.line_length ≡ 0
   pub coherent : IsCoherent (bus_in p)
 
@@ -70,12 +75,27 @@ pub record MaySend (p : Parts) (notice : Notice) (core addr : ℕ) (hurt : ℕ �
   pub hurts : (k : ℕ) → hurt k ≡ violates (bus_in p) (message_of (bus_in p) notice core addr) k
   pub free : is_busy (bus_in p) (message_of (bus_in p) notice core addr) ≡ false
 
--- an access of a core within the line at this address, on a coherent bus
+-- the message that is sent so
+abbrev pub message_in : Sent → Message
+message_in sent = record { notice = sent.notice; sender = sent.sender; addr = sent.addr; line = slice_index sent.line }
+
+-- a core of a coherent bus may send this about a line, which has no bytes past its length
+pub record IsToSend (p : Parts) (sent : Sent) : Type 0 where
+  pub at : IsAtLine p sent.sender sent.addr
+  pub past : (x : ℕ) → p.machine.line_length ≤ x → slice_index sent.line x ≡ 0
+  pub may : MaySend p sent.notice sent.sender sent.addr (is_in sent.hurt)
+
+-- an access of a core within the line of memory at this address, on a coherent bus
 pub record IsAccessIn (p : Parts) (core addr offset width : ℕ) : Type 0 where
   pub there : core < length p.cores.items
-  pub short : p.machine.line_length ≤ LONGEST_LINE
   pub line : addr % p.machine.line_length ≡ 0
   pub coherent : IsCoherent (bus_in p)
+  pub inside : addr + p.machine.line_length ≤ length p.memory.items
   pub in_line : offset + width ≤ p.machine.line_length
   pub wide : IsWidth width
   pub aligned : offset % width ≡ 0
+
+-- such an access of a core that doesn't speculate
+pub record IsStraightIn (p : Parts) (core addr offset width : ℕ) : Type 0 where
+  pub access : IsAccessIn p core addr offset width
+  pub straight : speculates ((bus_in p).core core).attempt ≡ false

@@ -8,7 +8,7 @@ ghost use Rattle.cache_lines.specs.Protocol.{IsInPlace, copy_at, copy_with_numbe
 ghost use Rattle.orb.specs.Lines.{holds, is_full, without};
 ghost use Rattle.bus_states.specs.Messages.{with_copy, with_entry, dropped_core, changed_core, without_line, order, reply_to, bytes_after};
 ghost use Rattle.bus_states.specs.Straight.{straight_attempt, settled_core};
-ghost use Rattle.spec_bus.specs.CoreStates.{state_of, MayHear, heard};
+ghost use Rattle.spec_bus.specs.CoreStates.{state_of, MayChange, MayHear, heard};
 ghost use Rattle.spec_bus.specs.Fresh.{idle_core};
 ghost use Rattle.spec_bus.specs.Parts.{room_in};
 
@@ -95,10 +95,8 @@ impl Core {
     /// The core's copy of the line at `addr` changes so, with these bytes.
     pub(crate) fn change(&mut self, addr: u32, next: Next, cells: [u8; LONGEST_LINE])
         requires held { is_valid next.state ≡ true → is_valid (copy_at self.old.cache addr).state ≡ true }
-        requires mask { IsWithinLine self.old.cache.line_length next.marks.bytes }
+        requires may { MayChange (state_of self.old) addr next }
         requires past { (x : ℕ) → self.old.cache.line_length ≤ x → slice_index cells x ≡ 0 }
-        requires entry { next.enters ≡ true → holds self.old.orb.lines addr ≡ false }
-        requires room { (next.enters && is_full self.old.orb) ≡ false }
         ensures { state_of self.new ≡ changed_core addr next (slice_index cells) (state_of self.old) }
     {
         if let Some(way) = self.cache.find(addr) {
@@ -133,10 +131,8 @@ impl Core {
         requires aligned { addr % self.old.cache.line_length ≡ 0 }
         requires absent { is_valid (copy_at self.old.cache addr).state ≡ false }
         requires valid { is_valid next.state ≡ true }
-        requires mask { IsWithinLine self.old.cache.line_length next.marks.bytes }
+        requires may { MayChange (state_of self.old) addr next }
         requires past { (x : ℕ) → self.old.cache.line_length ≤ x → slice_index cells x ≡ 0 }
-        requires entry { next.enters ≡ true → holds self.old.orb.lines addr ≡ false }
-        requires room { (next.enters && is_full self.old.orb) ≡ false }
         ensures { state_of self.new ≡ changed_core addr next (slice_index cells)
             (without_line addr (Some (room_in self.old.cache addr way)) (state_of self.old)) }
     {

@@ -256,14 +256,16 @@ impl EpochStore for CachedBus {
         };
         let memory = placed_memory(alloc, image)?;
         let cores = idle_cores(alloc, cores, of_places)?;
+        let parts = Parts {
+            cores,
+            memory,
+            code: image.code(),
+            machine: of_places,
+        };
+        let size = image.size();
         Ok(CachedBus {
-            parts: Parts {
-                cores,
-                memory,
-                code: image.code(),
-                machine: of_places,
-            },
-            size: image.size(),
+            parts,
+            size,
             apart: machine.apart,
         })
     }

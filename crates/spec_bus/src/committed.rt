@@ -16,14 +16,13 @@ use std::alloc::{AllocError, Global};
 
 impl Core {
     /// Puts the line in a place of the cache into memory, where it is M. The places are counted set by set, and in a set way by way.
-    fn write_place(&self, place: usize, memory: &mut Vec<u8>)
+    fn write_place(&self, place: usize, memory: &mut [u8])
         requires place { place < self.now.cache.geometry.sets * self.now.cache.geometry.ways }
-        requires fits { FitsMemory self.now.cache (length memory.old.items) }
-        ensures size { length memory.new.items ≡ length memory.old.items }
-        ensures bytes { (p : ℕ) → slice_index memory.new.items p
+        requires fits { FitsMemory self.now.cache (length memory.old) }
+        ensures { (p : ℕ) → slice_index memory.new p
             ≡ (if is_modified_in self.now.cache (line_of self.now.cache.line_length p) place then
             (copy_at self.now.cache (line_of self.now.cache.line_length p)).cell (offset_of self.now.cache.line_length p)
-            else slice_index memory.old.items p) }
+            else slice_index memory.old p) }
     {
         let line_length = self.cache.line_length();
         let ways = self.cache.ways();
@@ -33,13 +32,12 @@ impl Core {
     }
 
     /// Puts every line of the cache that is M into memory.
-    fn write_lines(&self, memory: &mut Vec<u8>)
-        requires fits { FitsMemory self.now.cache (length memory.old.items) }
-        ensures size { length memory.new.items ≡ length memory.old.items }
-        ensures bytes { (p : ℕ) → slice_index memory.new.items p
+    fn write_lines(&self, memory: &mut [u8])
+        requires { FitsMemory self.now.cache (length memory.old) }
+        ensures { (p : ℕ) → slice_index memory.new p
             ≡ (if is_modified (copy_at self.now.cache (line_of self.now.cache.line_length p)).state then
             (copy_at self.now.cache (line_of self.now.cache.line_length p)).cell (offset_of self.now.cache.line_length p)
-            else slice_index memory.old.items p) }
+            else slice_index memory.old p) }
     {
         let places = self.cache.sets() * self.cache.ways();
         for place in 0..places {
@@ -58,7 +56,7 @@ impl Parts {
     {
         let mut memory = Vec::from_slice(alloc, self.memory.as_slice())?;
         for k in 0..self.cores.len() {
-            self.core(k).write_lines(&mut memory);
+            self.core(k).write_lines(memory.as_mut_slice());
         }
         Ok(memory)
     }

@@ -78,16 +78,14 @@ pub(crate) fn memory_line(memory: &[u8], addr: usize, line_length: usize) -> [u8
 
 /// Puts the line at `addr` into memory.
 pub(crate) fn write_line(
-    memory: &mut Vec<u8>,
+    memory: &mut [u8],
     addr: usize,
     line_length: usize,
     line: &[u8; LONGEST_LINE],
 )
-    requires inside { addr + line_length ≤ length memory.old.items }
+    requires inside { addr + line_length ≤ length memory.old }
     requires short { line_length ≤ LONGEST_LINE }
-    ensures size { length memory.new.items ≡ length memory.old.items }
-    ensures bytes { (p : ℕ) → slice_index memory.new.items p
-        ≡ message_spec.with_line line_length addr (slice_index line.now) (slice_index memory.old.items) p }
+    ensures { slice_index memory.new ≡ message_spec.with_line line_length addr (slice_index line.now) (slice_index memory.old) }
 {
     for x in 0..line_length {
         memory[addr + x] = line[x];
@@ -97,16 +95,15 @@ pub(crate) fn write_line(
 /// Puts the line at `addr` into memory, where the test holds.
 pub(crate) fn write_line_if(
     test: bool,
-    memory: &mut Vec<u8>,
+    memory: &mut [u8],
     addr: usize,
     line_length: usize,
     line: &[u8; LONGEST_LINE],
 )
-    requires inside { test ≡ true → addr + line_length ≤ length memory.old.items }
+    requires inside { test ≡ true → addr + line_length ≤ length memory.old }
     requires short { line_length ≤ LONGEST_LINE }
-    ensures size { length memory.new.items ≡ length memory.old.items }
-    ensures bytes { (p : ℕ) → slice_index memory.new.items p ≡ (if test then
-        message_spec.with_line line_length addr (slice_index line.now) (slice_index memory.old.items) else slice_index memory.old.items) p }
+    ensures { slice_index memory.new ≡ (if test then
+        message_spec.with_line line_length addr (slice_index line.now) (slice_index memory.old) else slice_index memory.old) }
 {
     if test {
         write_line(memory, addr, line_length, line);

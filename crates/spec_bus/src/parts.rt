@@ -1,13 +1,10 @@
-ghost use Rattle.std.specs.Prelude.{◌≡◌, ℕ, ◌+◌, ◌<◌, ◌≤◌, ◌%◌, ◌&&◌, ◌||◌, false, length, slice_get, slice_index, Some, None};
+ghost use Rattle.std.specs.Prelude.{◌≡◌, ℕ, ◌+◌, ◌<◌, ◌≤◌, ◌&&◌, ◌||◌, false, length, slice_get, slice_index, Some, None};
 ghost use Rattle.spec_states.specs.declared.line.TheConstants.{LONGEST_LINE};
 ghost use Rattle.violations.specs.View.{epoch_of};
 ghost use Rattle.violations.specs.CoreSet.{is_in};
 ghost use Rattle.bus_states.specs.Bus.{committed, is_later};
-ghost use Rattle.bus_states.specs.Coherent.{IsCoherent};
 ghost use Rattle.bus_states.specs.Messages as message_spec;
 ghost use Rattle.spec_bus.specs.CoreStates.{state_of};
-ghost use Rattle.spec_bus.specs.Laws.{IsPlacedCore};
-ghost use Rattle.spec_bus.specs.Parts.{bus_in, room_at};
 ghost use Rattle.bus_states.specs.Messages.{IsRoom};
 
 use crate::bus_core::Core;
@@ -18,13 +15,15 @@ use rv32_image::Machine;
 use spec_states::{LONGEST_LINE, Next};
 use violations::{Attempt, CoreSet};
 
-/// The cores on the bus, and memory.
+/// The cores on the bus, at most sixteen, and memory, of lines that a cache can have.
 #[derive(Drop)]
 pub struct Parts {
     pub cores: Vec<Core>,
     pub memory: Vec<u8>,
     pub code: u32,
     pub machine: Machine,
+    ghost few: { length cores.items ≤ 16 },
+    ghost short: { machine.line_length ≤ LONGEST_LINE },
 }
 
 /// The epoch of an attempt; 0 where there is none.
@@ -60,6 +59,9 @@ pub struct Survey {
 }
 
 impl Parts {
+    ghost use Rattle.spec_bus.specs.Laws.{IsPlacedCore};
+    ghost use Rattle.spec_bus.specs.Parts.{IsAtLine, bus_in, room_at};
+
     /// Core `k`.
     pub(crate) fn core(&self, k: usize) -> &Core
         requires { k < length self.now.cores.items }
@@ -69,31 +71,38 @@ impl Parts {
         &self.cores[k]
     }
 
-    /// Whether core `k` runs a later epoch than this core.
-    pub(crate) fn is_later(&self, core: usize, k: usize) -> bool
-        requires core { core < length self.now.cores.items }
-        requires k { k < length self.now.cores.items }
-        ensures { result ≡ is_later (bus_in self.now) core k }
+    /// What core `k` runs; nothing where there is no such core.
+    pub(crate) fn attempt(&self, k: usize) -> Option<Attempt>
+        ensures { result ≡ ((bus_in self.now).core k).attempt }
     {
-        epoch_of(self.core(core).attempt) < epoch_of(self.core(k).attempt)
+        match self.cores.get(k) {
+            Some(core) => core.attempt,
+            None => None,
+        }
     }
 
-    /// The copy that core `k` has of the line at `addr`; an invalid line where it has none.
+    /// Whether core `k` runs a later epoch than this core.
+    pub(crate) fn is_later(&self, core: usize, k: usize) -> bool
+        ensures { result ≡ is_later (bus_in self.now) core k }
+    {
+        epoch_of(self.attempt(core)) < epoch_of(self.attempt(k))
+    }
+
+    /// The copy that core `k` has of the line at `addr`; an invalid line where it has none, or where there is no such core.
     pub(crate) fn copy(&self, k: usize, addr: u32) -> &Line
-        requires core { k < length self.now.cores.items }
         ensures state { result.now.state ≡ (((bus_in self.now).core k).copy addr).state }
         ensures marks { result.now.marks ≡ (((bus_in self.now).core k).copy addr).marks }
         ensures cells { (x : ℕ) → slice_index result.now.cells x ≡ (((bus_in self.now).core k).copy addr).cell x }
     {
-        self.core(k).line_at(addr)
+        match self.cores.get(k) {
+            Some(core) => core.line_at(addr),
+            None => &Line::INVALID,
+        }
     }
 
     /// What a message of this core about the line at `addr` makes of the copy of core `k`.
     fn reply(&self, notice: Notice, core: usize, addr: u32, k: usize) -> Next
-        requires core { core < length self.now.cores.items }
-        requires k { k < length self.now.cores.items }
-        requires line { addr % self.now.machine.line_length ≡ 0 }
-        requires coherent { IsCoherent (bus_in self.now) }
+        requires { IsAtLine self.now k addr }
         ensures { result ≡ message_spec.reply (bus_in self.now) (message_spec.message_of (bus_in self.now) notice core addr) k }
     {
         let copy = self.copy(k, addr);
@@ -102,10 +111,7 @@ impl Parts {
 
     /// What becomes of core `k` at a message of this core about the line at `addr`.
     fn effect(&self, notice: Notice, core: usize, addr: u32, k: usize) -> Effect
-        requires core { core < length self.now.cores.items }
-        requires k { k < length self.now.cores.items }
-        requires line { addr % self.now.machine.line_length ≡ 0 }
-        requires coherent { IsCoherent (bus_in self.now) }
+        requires { IsAtLine self.now k addr }
         ensures violated { result.violated ≡ message_spec.violates (bus_in self.now)
             (message_spec.message_of (bus_in self.now) notice core addr) k }
         ensures holds_up { result.holds_up ≡ message_spec.holds_up (bus_in self.now)
@@ -127,10 +133,7 @@ impl Parts {
 
     /// What becomes of all cores at a message of this core about the line at `addr`.
     pub(crate) fn survey(&self, notice: Notice, core: usize, addr: u32) -> Survey
-        requires core { core < length self.now.cores.items }
-        requires few { length self.now.cores.items ≤ 16 }
-        requires line { addr % self.now.machine.line_length ≡ 0 }
-        requires coherent { IsCoherent (bus_in self.now) }
+        requires { IsAtLine self.now core addr }
         ensures hurt { (k : ℕ) → is_in result.hurt k ≡ message_spec.violates (bus_in self.now)
             (message_spec.message_of (bus_in self.now) notice core addr) k }
         ensures busy { result.busy ≡ message_spec.is_busy (bus_in self.now)
@@ -158,8 +161,7 @@ impl Parts {
 
     /// The committed line at `addr`.
     pub(crate) fn committed_line(&self, addr: u32) -> [u8; LONGEST_LINE]
-        requires inside { addr + self.now.machine.line_length ≤ length self.now.memory.items }
-        requires short { self.now.machine.line_length ≤ LONGEST_LINE }
+        requires { addr + self.now.machine.line_length ≤ length self.now.memory.items }
         ensures { (x : ℕ) → slice_index result x ≡ committed (bus_in self.now) addr x }
     {
         let mut line = memory_line(

@@ -1,16 +1,14 @@
 //! Publish: the lines of a core's buffer, one after the other, and then its other lines.
 ghost use Rattle.std.specs.Prelude.{◌≡◌, ℕ, ◌<◌, ◌≤◌, ◌||◌, false, true, length, Some};
-ghost use Rattle.spec_states.specs.declared.line.TheConstants.{LONGEST_LINE};
 ghost use Rattle.violations.specs.CoreSet.{is_in};
-ghost use Rattle.bus_states.specs.Coherent.{IsCoherent};
 ghost use Rattle.bus_states.specs.Messages as message_spec;
 ghost use Rattle.orb.specs.Lines.{holds};
 ghost use Rattle.bus_states.specs.Messages.{order};
-ghost use Rattle.spec_bus.specs.Parts.{bus_in};
+ghost use Rattle.spec_bus.specs.Parts.{bus_in, IsOnBus};
 ghost use Rattle.bus_states.specs.declared.notice.Notice.TheVariants.{Publish};
-ghost use Rattle.bus_states.specs.Straight.{after_publish_line, after_publish_lines, after_publish, publish_violates};
+ghost use Rattle.bus_states.specs.Straight.{after_publish_line, after_publish, publish_violates};
 
-use crate::cores::{release, settle};
+use crate::messages::Sent;
 use crate::parts::Parts;
 use bus_states::Notice;
 use spec_states::settled;
@@ -33,10 +31,7 @@ fn union(first: CoreSet, second: CoreSet) -> CoreSet
 impl Parts {
     /// This core publishes the line at `addr`, which leaves its buffer. Answers the cores that are violated.
     fn publish_line(&mut self, core: usize, addr: u32) -> CoreSet
-        requires core { core < length self.old.cores.items }
-        requires few { length self.old.cores.items ≤ 16 }
-        requires short { self.old.machine.line_length ≤ LONGEST_LINE }
-        requires coherent { IsCoherent (bus_in self.old) }
+        requires place { IsOnBus self.old core }
         requires listed { holds ((bus_in self.old).core core).buffer.lines addr ≡ true }
         ensures bus { bus_in self.new ≡ after_publish_line (bus_in self.old) core addr }
         ensures hurt { (k : ℕ) → is_in result k ≡ message_spec.violates (bus_in self.old)
@@ -45,39 +40,31 @@ impl Parts {
         let copy = *self.copy(core, addr);
         let survey = self.survey(Notice::Publish, core, addr);
         let next = settled(copy.state, copy.marks, survey.alone);
-        self.claim(Notice::Publish, core, addr, &copy.cells, survey.hurt, next);
-        release(&mut self.cores, core, addr);
+        let line = copy.cells;
+        let sent = Sent {
+            notice: Notice::Publish,
+            sender: core,
+            addr,
+            line,
+            hurt: survey.hurt,
+        };
+        self.claim(&sent, next);
+        self.cores[core].release(addr);
         survey.hurt
     }
 
-    /// This core publishes the lines of its buffer, in the order in which they entered. Answers the cores that are violated.
-    fn publish_lines(&mut self, core: usize) -> CoreSet
-        requires core { core < length self.old.cores.items }
-        requires few { length self.old.cores.items ≤ 16 }
-        requires short { self.old.machine.line_length ≤ LONGEST_LINE }
-        requires coherent { IsCoherent (bus_in self.old) }
-        ensures count { length self.new.cores.items ≡ length self.old.cores.items }
-        ensures bus { bus_in self.new ≡ after_publish_lines (bus_in self.old) core ((bus_in self.old).core core).buffer.lines }
+    /// This core publishes: what it saw is committed, and its attempt is straight. The lines of its buffer go one after the other, in
+    /// the order in which they entered. Answers the cores that are violated.
+    pub(crate) fn publish(&mut self, core: usize) -> CoreSet
+        requires { IsOnBus self.old core }
+        ensures bus { bus_in self.new ≡ after_publish (bus_in self.old) core }
         ensures hurt { (k : ℕ) → is_in result k ≡ publish_violates (bus_in self.old) core k }
     {
         let mut hurt = CoreSet::none();
         while let Some(addr) = self.core(core).orb.at(0) {
             hurt = union(hurt, self.publish_line(core, addr));
         }
-        hurt
-    }
-
-    /// This core publishes: what it saw is committed, and its attempt is straight. Answers the cores that are violated.
-    pub(crate) fn publish(&mut self, core: usize) -> CoreSet
-        requires core { core < length self.old.cores.items }
-        requires few { length self.old.cores.items ≤ 16 }
-        requires short { self.old.machine.line_length ≤ LONGEST_LINE }
-        requires coherent { IsCoherent (bus_in self.old) }
-        ensures bus { bus_in self.new ≡ after_publish (bus_in self.old) core }
-        ensures hurt { (k : ℕ) → is_in result k ≡ publish_violates (bus_in self.old) core k }
-    {
-        let hurt = self.publish_lines(core);
-        settle(&mut self.cores, core);
+        self.cores[core].settle();
         hurt
     }
 }

@@ -11,7 +11,7 @@ ghost use Rattle.spec_bus.specs.Answers.{MatchAnswer, IsLoaded, MayTake, full_or
 ghost use Rattle.spec_states.specs.Rows.{owns_line};
 ghost use Rattle.bus_states.specs.declared.notice.Notice.TheVariants.{Load};
 
-use crate::cores::write;
+use crate::messages::Sent;
 use crate::parts::{Parts, Survey};
 use bus_states::Notice;
 use cache_lines::Line;
@@ -57,9 +57,7 @@ impl Parts {
         survey: Survey,
     ) -> u32
         requires access { IsAccessIn self.old core addr offset width }
-        requires few { length self.old.cores.items ≤ 16 }
         requires way { way < ((bus_in self.old).core core).geometry.ways }
-        requires inside { addr + self.old.machine.line_length ≤ length self.old.memory.items }
         requires absent { is_valid (((bus_in self.old).core core).copy addr).state ≡ false }
         requires may { MaySend self.old Load core addr (is_in survey.hurt) }
         requires alone { survey.alone ≡ message_spec.is_alone (bus_in self.old) (message_spec.message_of (bus_in self.old) Load core addr) }
@@ -72,7 +70,14 @@ impl Parts {
         let copy = self.copy(core, addr);
         let line = self.committed_line(addr);
         let next = after_own_load(copy.state, copy.marks, offset, width, survey.alone);
-        self.fetch(Notice::Load, core, addr, way, &line, survey.hurt, next);
+        let sent = Sent {
+            notice: Notice::Load,
+            sender: core,
+            addr,
+            line,
+            hurt: survey.hurt,
+        };
+        self.fetch(&sent, way, next);
         let fetched = Line {
             addr,
             state: next.state,
@@ -84,9 +89,7 @@ impl Parts {
 
     /// A speculative load of `width` bytes at `offset` of the line at `addr`.
     pub(crate) fn load(&mut self, core: usize, addr: u32, offset: u32, width: u32) -> Step
-        requires access { IsAccessIn self.old core addr offset width }
-        requires few { length self.old.cores.items ≤ 16 }
-        requires inside { addr + self.old.machine.line_length ≤ length self.old.memory.items }
+        requires { IsAccessIn self.old core addr offset width }
         ensures { MatchAnswer result
             (λ value hurt. IsLoaded (bus_in self.old) (bus_in self.new) core addr offset width
             (room_at self.old.cores.items core addr) value hurt)
@@ -137,8 +140,7 @@ impl Parts {
         offset: u32,
         width: u32,
     ) -> Result<(Next, CoreSet), WaitCause>
-        requires access { IsAccessIn self.now core addr offset width }
-        requires few { length self.now.cores.items ≤ 16 }
+        requires { IsAccessIn self.now core addr offset width }
         ensures may { IfOk result (λ taken. MayTake (bus_in self.now) core addr offset width taken.0 (is_in taken.1)) }
         ensures waits { IfErr result (λ cause. full_or_busy (bus_in self.now) core addr offset width ≡ Some cause) }
     {
@@ -163,8 +165,7 @@ impl Parts {
         offset: u32,
         width: u32,
     ) -> Option<WaitCause>
-        requires access { IsAccessIn self.now core addr offset width }
-        requires few { length self.now.cores.items ≤ 16 }
+        requires { IsAccessIn self.now core addr offset width }
         ensures { result ≡ speculative.store_wait (bus_in self.now) core addr offset width (room_at self.now.cores.items core addr) }
     {
         let copy = self.copy(core, addr);
@@ -190,9 +191,7 @@ impl Parts {
         offset: u32,
         width: u32,
     ) -> Result<CoreSet, WaitCause>
-        requires access { IsAccessIn self.old core addr offset width }
-        requires few { length self.old.cores.items ≤ 16 }
-        requires inside { addr + self.old.machine.line_length ≤ length self.old.memory.items }
+        requires { IsAccessIn self.old core addr offset width }
         ensures taken { IfOk result (λ hurt. IsTaken (bus_in self.old) (bus_in self.new) core addr offset width
             (room_at self.old.cores.items core addr) (is_in hurt)) }
         ensures waits { IfErr result (λ cause. (speculative.store_wait (bus_in self.old) core addr offset width
@@ -205,9 +204,16 @@ impl Parts {
             return Ok(CoreSet::none());
         }
         if copy.state.is_valid() {
-            let cells = copy.cells;
+            let line = copy.cells;
             let (next, hurt) = self.survey_store(core, addr, offset, width)?;
-            self.claim(Notice::Store, core, addr, &cells, hurt, next);
+            let sent = Sent {
+                notice: Notice::Store,
+                sender: core,
+                addr,
+                line,
+                hurt,
+            };
+            self.claim(&sent, next);
             Ok(hurt)
         } else {
             let Some(way) = self.core(core).cache.victim(addr) else {
@@ -215,7 +221,14 @@ impl Parts {
             };
             let (next, hurt) = self.survey_store(core, addr, offset, width)?;
             let line = self.committed_line(addr);
-            self.fetch(Notice::Store, core, addr, way, &line, hurt, next);
+            let sent = Sent {
+                notice: Notice::Store,
+                sender: core,
+                addr,
+                line,
+                hurt,
+            };
+            self.fetch(&sent, way, next);
             Ok(hurt)
         }
     }
@@ -229,9 +242,7 @@ impl Parts {
         width: u32,
         value: u32,
     ) -> Step
-        requires access { IsAccessIn self.old core addr offset width }
-        requires few { length self.old.cores.items ≤ 16 }
-        requires inside { addr + self.old.machine.line_length ≤ length self.old.memory.items }
+        requires { IsAccessIn self.old core addr offset width }
         ensures { MatchAnswer result
             (λ answer hurt. (answer ≡ 0) × IsStored (bus_in self.old) (bus_in self.new) core addr offset width value
             (room_at self.old.cores.items core addr) hurt)
@@ -240,7 +251,7 @@ impl Parts {
     {
         match self.take_hold(core, addr, offset, width) {
             Ok(hurt) => {
-                write(&mut self.cores, core, addr, offset, width, value);
+                self.cores[core].write(addr, offset, width, value);
                 Step::Done { value: 0, hurt }
             }
             Err(cause) => Step::Wait(cause),

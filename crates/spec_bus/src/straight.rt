@@ -1,17 +1,16 @@
 //! Loads and stores of a core whose attempt is straight.
 ghost use Rattle.std.specs.Prelude.{if◌then◌else◌, ◌≡◌, ℕ, ◌+◌, ◌<◌, ◌≤◌, ◌^◌, false, length, Some, None};
-ghost use Rattle.spec_states.specs.declared.line.TheConstants.{LONGEST_LINE};
 ghost use Rattle.violations.specs.CoreSet.{is_in};
 ghost use Rattle.bus_states.specs.Bus.{sees};
-ghost use Rattle.bus_states.specs.Coherent.{IsCoherent, speculates};
+ghost use Rattle.bus_states.specs.Coherent.{speculates};
 ghost use Rattle.bus_states.specs.Messages as message_spec;
-ghost use Rattle.memory_bytes.specs.Bytes.{IsWidth, number_at};
-ghost use Rattle.spec_bus.specs.Parts.{IsAtLine, bus_in, line_at, room_at};
+ghost use Rattle.memory_bytes.specs.Bytes.{number_at};
+ghost use Rattle.spec_bus.specs.Parts.{IsOnBus, IsStraightIn, bus_in, line_at, room_at};
 ghost use Rattle.bus_states.specs.declared.notice.Notice.TheVariants.{Load, Publish};
 ghost use Rattle.spec_states.specs.declared.line.LineState.TheVariants.{S};
 ghost use Rattle.bus_states.specs.Straight.{unmarked_next, stores_alone, after_straight_load, straight_load_violates, after_straight_store, straight_store_violates};
 
-use crate::cores::change;
+use crate::messages::Sent;
 use crate::parts::Parts;
 use bus_states::Notice;
 use cache_lines::Line;
@@ -48,9 +47,8 @@ pub(crate) fn stores_alone(state: LineState) -> bool
 impl Parts {
     /// The way that a line at `addr` takes in the cache of a core that doesn't speculate: no line there is marked, so there is one.
     fn straight_way(&self, core: usize, addr: u32) -> usize
-        requires core { core < length self.now.cores.items }
+        requires place { IsOnBus self.now core }
         requires straight { speculates ((bus_in self.now).core core).attempt ≡ false }
-        requires coherent { IsCoherent (bus_in self.now) }
         ensures way { result < ((bus_in self.now).core core).geometry.ways }
         ensures room { room_at self.now.cores.items core addr ≡ line_at self.now.cores.items core addr (Some result) }
     {
@@ -73,12 +71,7 @@ impl Parts {
         offset: u32,
         width: u32,
     ) -> (u32, CoreSet)
-        requires place { IsAtLine self.old core addr }
-        requires short { self.old.machine.line_length ≤ LONGEST_LINE }
-        requires inside { addr + self.old.machine.line_length ≤ length self.old.memory.items }
-        requires in_line { offset + width ≤ self.old.machine.line_length }
-        requires width { IsWidth width }
-        requires straight { speculates ((bus_in self.old).core core).attempt ≡ false }
+        requires access { IsStraightIn self.old core addr offset width }
         requires free { message_spec.is_busy (bus_in self.old) (message_spec.message_of (bus_in self.old) Load core addr) ≡ false }
         ensures bus { bus_in self.new ≡ after_straight_load (bus_in self.old) core addr (room_at self.old.cores.items core addr) }
         ensures value { result.0 ≡ number_at (sees (bus_in self.old) core addr) offset width }
@@ -93,7 +86,14 @@ impl Parts {
         let survey = self.survey(Notice::Load, core, addr);
         let cells = self.committed_line(addr);
         let next = unmarked_if(survey.alone, LineState::E);
-        self.fetch(Notice::Load, core, addr, way, &cells, survey.hurt, next);
+        let sent = Sent {
+            notice: Notice::Load,
+            sender: core,
+            addr,
+            line: cells,
+            hurt: survey.hurt,
+        };
+        self.fetch(&sent, way, next);
         let line = Line { cells, ..copy };
         (line.number_at(offset, width), survey.hurt)
     }
@@ -108,12 +108,7 @@ impl Parts {
         width: u32,
         value: u32,
     ) -> CoreSet
-        requires place { IsAtLine self.old core addr }
-        requires short { self.old.machine.line_length ≤ LONGEST_LINE }
-        requires inside { addr + self.old.machine.line_length ≤ length self.old.memory.items }
-        requires in_line { offset + width ≤ self.old.machine.line_length }
-        requires width { IsWidth width }
-        requires straight { speculates ((bus_in self.old).core core).attempt ≡ false }
+        requires access { IsStraightIn self.old core addr offset width }
         requires free { message_spec.is_busy (bus_in self.old) (message_spec.message_of (bus_in self.old) Publish core addr) ≡ false }
         ensures bus { bus_in self.new
             ≡ after_straight_store (bus_in self.old) core addr offset width value (room_at self.old.cores.items core addr) }
@@ -122,41 +117,36 @@ impl Parts {
         let copy = *self.copy(core, addr);
         if stores_alone(copy.state) {
             let stored = copy.with_number(offset, width, value);
-            change(
-                &mut self.cores,
-                core,
-                addr,
-                unmarked(LineState::M),
-                stored.cells,
-            );
+            self.cores[core].change(addr, unmarked(LineState::M), stored.cells);
             return CoreSet::none();
         }
         let survey = self.survey(Notice::Publish, core, addr);
         let next = unmarked_if(survey.alone, LineState::M);
         if copy.state.is_valid() {
-            let stored = copy.with_number(offset, width, value);
-            self.claim(
-                Notice::Publish,
-                core,
+            let line = copy.with_number(offset, width, value).cells;
+            let sent = Sent {
+                notice: Notice::Publish,
+                sender: core,
                 addr,
-                &stored.cells,
-                survey.hurt,
-                next,
-            );
+                line,
+                hurt: survey.hurt,
+            };
+            self.claim(&sent, next);
             return survey.hurt;
         }
         let way = self.straight_way(core, addr);
         let cells = self.committed_line(addr);
-        let stored = Line { cells, ..copy }.with_number(offset, width, value);
-        self.fetch(
-            Notice::Publish,
-            core,
+        let line = Line { cells, ..copy }
+            .with_number(offset, width, value)
+            .cells;
+        let sent = Sent {
+            notice: Notice::Publish,
+            sender: core,
             addr,
-            way,
-            &stored.cells,
-            survey.hurt,
-            next,
-        );
+            line,
+            hurt: survey.hurt,
+        };
+        self.fetch(&sent, way, next);
         survey.hurt
     }
 }

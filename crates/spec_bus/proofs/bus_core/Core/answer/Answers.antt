@@ -8,10 +8,14 @@ use Rattle.bus_states.proofs.Replies.{reply-within}
 use Rattle.spec_bus.specs.CoreStates.{state_of}
 use Rattle.spec_bus.proofs.bus_core.Core.answer.Goals as goal
 
-pub change-requires-clause-mask : goal.change-requires-clause-mask
-change-requires-clause-mask c =
+pub change-requires-clause-may : goal.change-requires-clause-may
+change-requires-clause-may c =
     rw (c.answer-next.ensures.reply, c.line_at-line.ensures.state, c.line_at-line.ensures.marks)
-    (reply-within c.args.notice (copy_at c.args.self.now.cache c.args.addr).state (copy_at c.args.self.now.cache c.args.addr).marks (order c.args.later) c.args.self.now.cache.line_length c.line_at-line.ensures.in_place.mask)
+    (record {
+      mask = reply-within c.args.notice (copy_at c.args.self.now.cache c.args.addr).state (copy_at c.args.self.now.cache c.args.addr).marks (order c.args.later) c.args.self.now.cache.line_length c.line_at-line.ensures.in_place.mask;
+      entry = c.requires.entry;
+      room = c.requires.room;
+    })
 
 pub change-requires-clause-past : goal.change-requires-clause-past
 change-requires-clause-past c x le =

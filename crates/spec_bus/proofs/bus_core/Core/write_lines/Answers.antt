@@ -6,26 +6,24 @@ use Rattle.spec_bus.proofs.CommittedMemory.{written_none, written_more, some_mod
 use Rattle.spec_bus.proofs.bus_core.Core.write_lines.Goals as goal
 
 pub loop-place-init : goal.loop-place-init
-loop-place-init c = (refl, written_none c.args.self.now.cache (slice_index c.args.memory.now.items))
+loop-place-init c = written_none c.args.self.now.cache (slice_index c.args.memory.now)
 
 pub write_place-requires-clause-fits : goal.write_place-requires-clause-fits
-write_place-requires-clause-fits c addr m = rw c.loop-place.invariant.0 (c.requires.fits addr m)
+write_place-requires-clause-fits c addr m = omega (arith, c.requires addr m)
 
 pub loop-place-preserved : goal.loop-place-preserved
-loop-place-preserved c = (
-  c.write_place.ensures.size ∙ c.loop-place.invariant.0,
-  written_more c.args.self.now.cache c.loop-place.place (slice_index c.args.memory.now.items) (slice_index c.loop-place.memory.items) (slice_index c.write_place.new.memory.items)
-      c.loop-place.invariant.1 c.write_place.ensures.bytes,
-)
+loop-place-preserved c =
+    written_more c.args.self.now.cache c.loop-place.place (slice_index c.args.memory.now) (slice_index c.loop-place.memory) (slice_index c.write_place.new.memory)
+    c.loop-place.invariant c.write_place.ensures
 
-pub returns-clause-bytes : goal.returns-clause-bytes
-returns-clause-bytes c p =
+pub returns : goal.returns
+returns c p =
     let n = c.args.self.now.cache.line_length in
     let cache = c.args.self.now.cache in
     let places : c.sets.result * c.ways.result ≡ cache.geometry.sets * cache.geometry.ways = rw (c.sets.ensures.value, c.ways.ensures.value) refl in
     let past = c.loop-place-test.false in
     let within = c.loop-place.auto.place-end in
     let all : c.loop-place.place ≡ cache.geometry.sets * cache.geometry.ways = omega (arith, places, past, within) in
-    c.loop-place.invariant.1 p
-    ∙ ap (λ at. cond (some_core at (is_modified_in cache (line_of n p))) ((copy_at cache (line_of n p)).cell (offset_of n p)) (slice_index c.args.memory.now.items p)) all
-    ∙ ap (λ b. cond b ((copy_at cache (line_of n p)).cell (offset_of n p)) (slice_index c.args.memory.now.items p)) (some_modified cache (line_of n p) c.sets.ensures.placed)
+    c.loop-place.invariant p
+    ∙ ap (λ at. cond (some_core at (is_modified_in cache (line_of n p))) ((copy_at cache (line_of n p)).cell (offset_of n p)) (slice_index c.args.memory.now p)) all
+    ∙ ap (λ b. cond b ((copy_at cache (line_of n p)).cell (offset_of n p)) (slice_index c.args.memory.now p)) (some_modified cache (line_of n p) c.sets.ensures.placed)

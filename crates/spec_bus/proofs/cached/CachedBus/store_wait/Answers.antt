@@ -7,8 +7,8 @@ use Rattle.spec_bus.specs.Parts.{bus_in, room_at}
 use Rattle.spec_bus.proofs.Placing.{access_in, access_under}
 use Rattle.spec_bus.proofs.cached.CachedBus.store_wait.Goals as goal
 
-pub store_wait-requires-clause-access : goal.store_wait-requires-clause-access
-store_wait-requires-clause-access c =
+pub store_wait-requires : goal.store_wait-requires
+store_wait-requires c =
     let i = c.self.inside in
     let kept = c.self.invariant in
     let access =

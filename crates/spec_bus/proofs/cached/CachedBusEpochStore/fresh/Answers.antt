@@ -1,73 +1,73 @@
-use Rattle.std.proofs.Common.{◌≡◌, Option, length, sym, ap, subst, ◌∙◌, arith}
-use Rattle.rv32_image.specs.declared.apart.Apart.{Apart}
+use Rattle.std.proofs.Common.{◌≤◌, length, sym, ap, subst, ◌∙◌, arith}
 use Rattle.rv32_image.specs.declared.machine.Machine.{Machine}
-use Rattle.rv32_image.specs.Places.{of_places}
-use Rattle.rv32_image.proofs.Bounds.{most_few}
+use Rattle.rv32_image.proofs.Bounds.{by_length, most_few}
 use Rattle.rv32_image.proofs.Places.{places-few}
+use Rattle.spec_states.specs.declared.line.TheConstants.{LONGEST_LINE}
 use Rattle.bus_states.specs.Bus.{Bus}
 use Rattle.bus_states.specs.Coherent.{IsCoherent}
-use Rattle.bus_states.specs.Views.{view_of, AreOrdered}
+use Rattle.bus_states.specs.Views.{AreOrdered}
 use Rattle.bus_states.proofs.AttemptRules.{opened-coherent, opened-ordered}
-use Rattle.violations.specs.Rule.{IsFresh}
-use Rattle.spec_bus.specs.declared.parts.Parts.{Parts}
-use Rattle.spec_bus.specs.Cached.{seen}
-use Rattle.spec_bus.specs.CachedInside.{ArePlaces}
-use Rattle.spec_bus.specs.Fresh.{fresh_bus, by_places, AreIdle}
-use Rattle.spec_bus.specs.Parts.{bus_in}
-use Rattle.spec_bus.proofs.Idle.{fresh_is}
+use Rattle.spec_bus.specs.Fresh.{fresh_bus, by_places}
 use Rattle.spec_bus.proofs.Laying.{by_places-length}
-use Rattle.spec_bus.proofs.Placing.{fresh-opened, fresh-places, fresh-seen}
+use Rattle.spec_bus.proofs.Placing.{fresh-made, fresh-opened, fresh-places, fresh-seen}
 use Rattle.spec_bus.proofs.cached.CachedBusEpochStore.fresh.Goals as goal
 
-machine-is : (c : goal.After-size) → of_places c.machine-machine.result ≡ of_places c.args.image.now.machine
-machine-is c = ap of_places c.machine-machine.ensures.machine
+pub invariant_of-parts-clause-few : goal.invariant_of-parts-clause-few
+invariant_of-parts-clause-few c =
+    let few = most_few c.args.image.now.version in omega (arith, c.in_ok-cores.ensures.count, c.requires.cores.most, few)
 
-apart-is : (c : goal.After-size) → c.machine-machine.result.apart ≡ c.args.image.now.machine.apart
-apart-is c = ap (λ (m : Machine). m.apart) c.machine-machine.ensures.machine
-
-abbrev parts : goal.After-size → Parts
-parts c = record { cores = c.in_ok-cores.cores; memory = c.in_ok-memory.memory; code = c.code.result; machine = of_places c.machine-machine.result }
-
-bus-is : (c : goal.After-size) → bus_in (parts c) ≡ fresh_bus (by_places c.args.image.now) c.args.cores
-bus-is c =
+pub invariant_of-parts-clause-short : goal.invariant_of-parts-clause-short
+invariant_of-parts-clause-short c =
     let image = c.args.image.now in
-    let long = by_places-length image c.code.ensures.limits.machine_allowed c.code.ensures.limits.byte_count in
-    fresh_is (by_places image) c.args.cores c.code.result (of_places c.machine-machine.result) c.in_ok-cores.cores.items c.in_ok-memory.memory.items
-    c.in_ok-cores.ensures.count (ap length c.in_ok-memory.ensures ∙ long) c.code.ensures.code (machine-is c) c.in_ok-memory.ensures
-    (subst (λ (l : Machine). AreIdle l c.in_ok-cores.cores.items) (machine-is c) c.in_ok-cores.ensures.idle)
+    let short = by_length (λ n. n ≤ LONGEST_LINE) image.machine.line_length c.machine-machine.ensures.limits.machine_allowed.is.line_length (omega arith) (omega arith) (omega arith) in
+    subst (λ (m : Machine). m.line_length ≤ LONGEST_LINE) (sym c.machine-machine.ensures.machine) short
 
 pub invariant_of-result : goal.invariant_of-result
 invariant_of-result c =
     let image = c.args.image.now in
     let limits = c.code.ensures.limits in
     let fits = limits.machine_allowed in
+    let is =
+    fresh-made image c.args.cores limits.machine_allowed limits.byte_count c.code.result c.machine-machine.result c.in_ok-cores.cores.items c.in_ok-memory.memory.items
+    c.in_ok-cores.ensures.count c.in_ok-cores.ensures.idle c.in_ok-memory.ensures c.code.ensures.code c.machine-machine.ensures.machine in
     let opened = fresh-opened image c.args.cores fits limits.byte_count in
-    let few = most_few image.version in
     let long = ap length c.in_ok-memory.ensures ∙ by_places-length image fits limits.byte_count in
     let most = places-few image.machine image.size fits limits.size_most in record {
       bus = record {
-        coherent = subst (λ (bus : Bus). IsCoherent bus) (sym (bus-is c)) (opened-coherent (fresh_bus (by_places image) c.args.cores) (by_places image) c.args.cores opened);
-        ordered = subst (λ (bus : Bus). AreOrdered bus) (sym (bus-is c)) (opened-ordered (fresh_bus (by_places image) c.args.cores) (by_places image) c.args.cores opened);
-        few = omega (arith, c.in_ok-cores.ensures.count, c.requires.cores.most, few);
+        coherent = subst (λ (bus : Bus). IsCoherent bus) (sym is) (opened-coherent (fresh_bus (by_places image) c.args.cores) (by_places image) c.args.cores opened);
+        ordered = subst (λ (bus : Bus). AreOrdered bus) (sym is) (opened-ordered (fresh_bus (by_places image) c.args.cores) (by_places image) c.args.cores opened);
         small = omega (arith, long, most);
       };
       places =
-          subst (λ n. ArePlaces n c.machine-machine.result.apart (parts c)) (sym c.size.ensures.size)
-          (subst (λ (a : Option Apart). ArePlaces image.size a (parts c)) (sym (apart-is c))
-          (fresh-places image c.args.cores fits limits.byte_count limits.size_most (parts c) (bus-is c)));
+          fresh-places image c.args.cores fits limits.byte_count limits.size_most _ _ _ c.size-size.ensures.size
+          (ap (λ (m : Machine). m.apart) c.machine-machine.ensures.machine) is;
     }
 
 pub returns-clause-bus : goal.returns-clause-bus
-returns-clause-bus c = bus-is c
+returns-clause-bus c =
+    let image = c.args.image.now in
+    let limits = c.code.ensures.limits in
+    fresh-made image c.args.cores limits.machine_allowed limits.byte_count c.code.result c.machine-machine.result c.in_ok-cores.cores.items c.in_ok-memory.memory.items
+    c.in_ok-cores.ensures.count c.in_ok-cores.ensures.idle c.in_ok-memory.ensures c.code.ensures.code c.machine-machine.ensures.machine
 
 pub returns-clause-fresh : goal.returns-clause-fresh
 returns-clause-fresh c =
     let image = c.args.image.now in
     let limits = c.code.ensures.limits in
-    subst (λ n. IsFresh image c.args.cores (seen n c.machine-machine.result.apart (view_of (bus_in (parts c))))) (sym c.size.ensures.size)
-    (subst (λ (a : Option Apart). IsFresh image c.args.cores (seen image.size a (view_of (bus_in (parts c))))) (sym (apart-is c))
-    (subst (λ (bus : Bus). IsFresh image c.args.cores (seen image.size image.machine.apart (view_of bus))) (sym (bus-is c))
-    (fresh-seen image c.args.cores limits.machine_allowed limits.byte_count)))
+    let is =
+    fresh-made image c.args.cores limits.machine_allowed limits.byte_count c.code.result c.machine-machine.result c.in_ok-cores.cores.items c.in_ok-memory.memory.items
+    c.in_ok-cores.ensures.count c.in_ok-cores.ensures.idle c.in_ok-memory.ensures c.code.ensures.code c.machine-machine.ensures.machine in
+    fresh-seen image c.args.cores limits.machine_allowed limits.byte_count _ _ _ c.size-size.ensures.size
+    (ap (λ (m : Machine). m.apart) c.machine-machine.ensures.machine) is
 
 pub returns-clause-starts : goal.returns-clause-starts
-returns-clause-starts c = record { bus_is = bus-is c; size = c.size.ensures.size; apart = apart-is c }
+returns-clause-starts c =
+    let image = c.args.image.now in
+    let limits = c.code.ensures.limits in
+    let is =
+    fresh-made image c.args.cores limits.machine_allowed limits.byte_count c.code.result c.machine-machine.result c.in_ok-cores.cores.items c.in_ok-memory.memory.items
+    c.in_ok-cores.ensures.count c.in_ok-cores.ensures.idle c.in_ok-memory.ensures c.code.ensures.code c.machine-machine.ensures.machine in record {
+      bus_is = is;
+      size = c.size-size.ensures.size;
+      apart = ap (λ (m : Machine). m.apart) c.machine-machine.ensures.machine;
+    }

@@ -12,8 +12,8 @@ use Rattle.spec_bus.proofs.Making.{load_makes, loaded_at}
 use Rattle.spec_bus.proofs.Placing.{access_at, access_in, access_under, access_within, at_address, place_at, loaded-places, place_in, runs_under, seen-loads, shape_of}
 use Rattle.spec_bus.proofs.cached.CachedBusEpochStore.load.Goals as goal
 
-pub load-requires-clause-access : goal.load-requires-clause-access
-load-requires-clause-access c =
+pub load-requires : goal.load-requires
+load-requires c =
     let i = c.self.inside in
     let kept = c.self.invariant in
     let access =

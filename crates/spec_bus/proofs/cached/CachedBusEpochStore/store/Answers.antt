@@ -12,8 +12,8 @@ use Rattle.spec_bus.proofs.Making.{store_makes, stored_at}
 use Rattle.spec_bus.proofs.Placing.{access_at, access_in, access_under, access_within, at_address, place_at, stored-places, place_in, runs_under, seen-stores, shape_of}
 use Rattle.spec_bus.proofs.cached.CachedBusEpochStore.store.Goals as goal
 
-pub store-requires-clause-access : goal.store-requires-clause-access
-store-requires-clause-access c =
+pub store-requires : goal.store-requires
+store-requires c =
     let i = c.self.inside in
     let kept = c.self.invariant in
     let access =

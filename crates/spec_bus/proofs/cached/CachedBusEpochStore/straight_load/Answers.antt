@@ -10,7 +10,7 @@ use Rattle.bus_states.specs.Straight.{after_straight_load, straight_load_violate
 use Rattle.bus_states.specs.Views.{view_of}
 use Rattle.spec_bus.proofs.Keeping.{Accesses, loaded_straight, loads_straight, straight_free}
 use Rattle.spec_bus.proofs.Making.{straight_load_makes}
-use Rattle.spec_bus.proofs.Placing.{access_at, access_under, access_within, ends_in_line, at_address, place_at, loaded_straight-places, place_in, runs_under, seen-loads_straight, shape_of}
+use Rattle.spec_bus.proofs.Placing.{access_at, access_under, access_within, straight_in, at_address, place_at, loaded_straight-places, place_in, runs_under, seen-loads_straight, shape_of}
 use Rattle.spec_bus.proofs.cached.CachedBusEpochStore.straight_load.Goals as goal
 
 pub straight_load-requires-clause-free : goal.straight_load-requires-clause-free
@@ -20,15 +20,17 @@ straight_load-requires-clause-free c =
     (runs_under i.size i.apart i.parts c.args.core true (subst (λ v. Runs (store_view v) c.args.core true) (sym c.self.view_is) c.requires.runs))
     (rw (← c.self.view_is) at c.line_of-line.ensures.aligned)
 
-pub straight_load-requires-clause-in_line : goal.straight_load-requires-clause-in_line
-straight_load-requires-clause-in_line c =
+pub straight_load-requires-clause-access : goal.straight_load-requires-clause-access
+straight_load-requires-clause-access c =
     let i = c.self.inside in
     let kept = c.self.invariant in
+    let runs = runs_under i.size i.apart i.parts c.args.core true (subst (λ v. Runs (store_view v) c.args.core true) (sym c.self.view_is) c.requires.runs) in
     let access =
     access_under i.size i.apart i.parts c.args.addr c.args.width c.place-place.result kept.bus kept.places
     (subst (λ v. IsLoad (store_view v).shape c.args.addr c.args.width) (sym c.self.view_is) c.requires.access)
     (subst (λ (v : CachedView). c.place-place.result ≡ place_of v c.args.addr) (sym c.self.view_is) c.place-place.ensures.place) in
-    ends_in_line i.parts c.place-place.result c.args.width kept.bus access
+    straight_in i.parts c.args.core c.place-place.result c.args.width c.line_of-line.result kept.bus runs access
+    (subst (λ (v : CachedView). c.line_of-line.result ≡ line_of (bus v).line_length c.place-place.result) (sym c.self.view_is) c.line_of-line.ensures.value)
 
 -- its place, and what it asks there
 place_is : (c : goal.After-straight_load) → c.place-place.result ≡ place_at c.self.inside.size c.self.inside.apart c.self.inside.parts c.args.addr

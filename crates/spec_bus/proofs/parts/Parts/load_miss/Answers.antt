@@ -9,9 +9,12 @@ use Rattle.spec_bus.specs.Parts.{bus_in, line_at}
 use Rattle.spec_bus.proofs.Moving.{sees_absent}
 use Rattle.spec_bus.proofs.parts.Parts.load_miss.Goals as goal
 
-pub fetch-requires-clause-past : goal.fetch-requires-clause-past
-fetch-requires-clause-past c x le =
-    c.committed_line-line.ensures x ∙ committed-past (bus_in c.args.self.now) c.args.addr x c.requires.access.coherent le
+pub fetch-requires-clause-sends : goal.fetch-requires-clause-sends
+fetch-requires-clause-sends c = record {
+  at = record { there = c.requires.access.there; line = c.requires.access.line; coherent = c.requires.access.coherent };
+  past = λ x le. c.committed_line-line.ensures x ∙ committed-past (bus_in c.args.self.now) c.args.addr x c.requires.access.coherent le;
+  may = c.requires.may;
+}
 
 pub returns-clause-bus : goal.returns-clause-bus
 returns-clause-bus c =

@@ -12,12 +12,16 @@ returns-then-is_valid-clause-value c =
     c.number_at.ensures.value
     ∙ ap (λ (line : ℕ → ℕ). number_at line c.args.offset c.args.width)
     (fun_ext (λ x. c.copy.ensures.cells x
-    ∙ sees-held (bus_in c.args.self.now) c.args.core c.args.addr c.requires.place.coherent c.requires.place.line
+    ∙ sees-held (bus_in c.args.self.now) c.args.core c.args.addr c.requires.access.access.coherent c.requires.access.access.line
     (ap is_valid (sym c.copy.ensures.state) ∙ sym c.is_valid.ensures ∙ c.if-is_valid.true) x))
 
-pub fetch-requires-clause-past : goal.fetch-requires-clause-past
-fetch-requires-clause-past c x le =
-    c.committed_line-cells.ensures x ∙ committed-past (bus_in c.args.self.now) c.args.addr x c.requires.place.coherent le
+pub fetch-requires-clause-sends : goal.fetch-requires-clause-sends
+fetch-requires-clause-sends c =
+    let access = c.requires.access.access in record {
+      at = record { there = access.there; line = access.line; coherent = access.coherent };
+      past = λ x le. c.committed_line-cells.ensures x ∙ committed-past (bus_in c.args.self.now) c.args.addr x access.coherent le;
+      may = record { hurts = c.survey-survey.ensures.hurt; free = c.requires.free };
+    }
 
 pub returns-clause-bus : goal.returns-clause-bus
 returns-clause-bus c =
@@ -26,7 +30,7 @@ returns-clause-bus c =
     (ap is_valid (sym c.copy.ensures.state) ∙ sym c.is_valid.ensures ∙ c.if-is_valid.false)
     (sym c.straight_way-way.ensures.room)
     (fun_ext (λ x. c.committed_line-cells.ensures x
-    ∙ sym (sees_committed (bus_in c.args.self.now) c.args.core c.args.addr c.requires.place.coherent c.requires.place.line c.requires.straight x)))
+    ∙ sym (sees_committed (bus_in c.args.self.now) c.args.core c.args.addr c.requires.access.access.coherent c.requires.access.access.line c.requires.access.straight x)))
     c.unmarked_if-next.ensures c.survey-survey.ensures.alone c.fetch.ensures
 
 pub returns-clause-value : goal.returns-clause-value
@@ -34,4 +38,4 @@ returns-clause-value c =
     c.number_at-2.ensures.value
     ∙ ap (λ (line : ℕ → ℕ). number_at line c.args.offset c.args.width)
     (fun_ext (λ x. c.committed_line-cells.ensures x
-    ∙ sym (sees_committed (bus_in c.args.self.now) c.args.core c.args.addr c.requires.place.coherent c.requires.place.line c.requires.straight x)))
+    ∙ sym (sees_committed (bus_in c.args.self.now) c.args.core c.args.addr c.requires.access.access.coherent c.requires.access.access.line c.requires.access.straight x)))

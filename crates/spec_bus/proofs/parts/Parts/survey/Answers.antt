@@ -2,6 +2,7 @@ use Rattle.std.proofs.Common.{◌≡◌, ℕ, ◌||◌, ◌&&◌, ◌==◌, refl
 use Rattle.violations.specs.CoreSet.{is_in}
 use Rattle.bus_states.specs.Messages.{message_of}
 use Rattle.spec_bus.specs.Parts.{bus_in}
+use Rattle.spec_bus.proofs.CoreCopies.{core_past}
 use Rattle.spec_bus.proofs.Surveys.{surveyed_more, surveyed_none, surveyed_all}
 use Rattle.spec_bus.proofs.parts.Parts.survey.Goals as goal
 use Rattle.spec_bus.proofs.parts.Parts.survey.Goals.{then-effect, else-effect, then-effect-2, else-effect-2, then-effect-3, else-effect-3}
@@ -30,4 +31,4 @@ loop-k-preserved c =
 pub returns-clause-hurt : goal.returns-clause-hurt
 returns-clause-hurt c =
     surveyed_all (bus_in c.args.self.now) (message_of (bus_in c.args.self.now) c.args.notice c.args.core c.args.addr) c.loop-k.k
-    (is_in c.loop-k.hurt) c.loop-k.busy c.loop-k.shared c.loop-k.invariant c.requires.coherent (omega arith)
+    (is_in c.loop-k.hurt) c.loop-k.busy c.loop-k.shared c.loop-k.invariant (core_past c.args.self.now.cores.items) (omega arith)

@@ -2,7 +2,7 @@ use Rattle.std.proofs.Common.{length}
 use Rattle.violations.specs.CoreSet.{is_in}
 use Rattle.spec_bus.specs.Parts.{bus_in}
 use Rattle.spec_bus.proofs.PublishLoop.{IsPublishing}
-use Rattle.spec_bus.proofs.parts.Parts.publish_lines.Given as goal
+use Rattle.spec_bus.proofs.parts.Parts.publish.Given as goal
 
 abbrev pub invariant-loop-addr : goal.invariant-loop-addr
 invariant-loop-addr l = IsPublishing (bus_in l.initial.self) (bus_in l.self) l.core (is_in l.hurt)
