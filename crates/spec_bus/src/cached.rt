@@ -78,12 +78,11 @@ impl CachedBus {
         self.size
     }
 
-    /// What a core runs.
+    /// What a core runs; nothing where there is no such core.
     pub fn attempt(&self, core: u32) -> Option<Attempt>
-        requires { core < (spec.bus self.now).shape.cores }
         ensures { result ≡ ((spec.bus self.now).core core).attempt }
     {
-        self.parts.core(core as usize).attempt
+        self.parts.attempt(core as usize)
     }
 
     /// The place of the byte at an address. One past memory counts as its end.
@@ -106,9 +105,8 @@ impl CachedBus {
         place - place % self.parts.machine.line_length
     }
 
-    /// The copy that a core has of the line in which this address lies.
+    /// The copy that a core has of the line in which this address lies; none where there is no such core.
     pub fn line_at(&self, core: u32, addr: u32) -> LineView
-        requires { core < (spec.bus self.now).shape.cores }
         ensures state { result.state ≡ (((spec.bus self.now).core core).copy (spec.line_of self.now addr)).state }
         ensures loaded { result.loaded ≡ (((spec.bus self.now).core core).copy (spec.line_of self.now addr)).marks.loaded }
         ensures bytes { result.bytes ≡ (((spec.bus self.now).core core).copy (spec.line_of self.now addr)).marks.bytes }
@@ -141,7 +139,6 @@ impl CachedBus {
 
     /// Whether a core owns the line in which this address lies, so that it may speculatively store to it and tell nobody.
     pub fn owns_line(&self, core: u32, addr: u32) -> bool
-        requires { core < (spec.bus self.now).shape.cores }
         ensures { result ≡ speculative.owns (spec.bus self.now) core (spec.line_of self.now addr) }
     {
         let line = self.line_of(self.place(addr));
@@ -151,22 +148,23 @@ impl CachedBus {
 
     /// Whether a core that doesn't speculate may store to the line in which this address lies, and tell nobody.
     pub fn stores_alone(&self, core: u32, addr: u32) -> bool
-        requires { core < (spec.bus self.now).shape.cores }
         ensures { result ≡ straight.stores_alone (speculative.own (spec.bus self.now) core (spec.line_of self.now addr)).state }
     {
         let line = self.line_of(self.place(addr));
         stores_alone(self.parts.copy(core as usize, line).state)
     }
 
-    /// The state of the line in whose way the line of this address would come into a core's cache. None: every way of its set carries marks.
+    /// The state of the line in whose way the line of this address would come into a core's cache. None: every way of its set carries
+    /// marks, or there is no such core.
     pub fn room_at(&self, core: u32, addr: u32) -> Option<LineState>
-        requires { core < (spec.bus self.now).shape.cores }
         ensures { result ≡ option_map (λ room. room.line.state) (spec.room self.now core (spec.line_of self.now addr)) }
     {
         let line = self.line_of(self.place(addr));
-        let cache = &self.parts.core(core as usize).cache;
-        match cache.victim(line) {
-            Some(way) => Some(cache.line(line, way).state),
+        let Some(core) = self.parts.cores.get(core as usize) else {
+            return None;
+        };
+        match core.cache.victim(line) {
+            Some(way) => Some(core.cache.line(line, way).state),
             None => None,
         }
     }
