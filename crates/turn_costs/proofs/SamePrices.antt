@@ -11,7 +11,7 @@ use Rattle.spec_bus.proofs.SameRooms.{IsOneRoom, same_place, same_rooms, invalid
 use Rattle.turn_costs.specs.declared.actions.Actions.{Actions}
 use Rattle.turn_costs.specs.Accesses.{count_of, leaves_modified, is_modified_elsewhere, miss_of, hit_of, load_of, store_tells, store_of, publish_lines}
 use Rattle.turn_costs.specs.Actions.{no_actions}
-use Rattle.turn_costs.specs.Prices.{bus_prices, AreSamePrices, PricesAreFixed, WaitsAreFixed}
+use Rattle.turn_costs.specs.Prices.{bus_prices, PricesAreFixed, WaitsAreFixed}
 
 same_leaves : (r s : Option Room) → IsOneRoom r s → leaves_modified r ≡ leaves_modified s
 same_leaves None None one = refl

@@ -1,9 +1,8 @@
 //! What calls cost on the bus of the caches.
-ghost use Rattle.std.specs.Prelude.{◌≡◌, ◌≤◌, ◌<◌, ℕ};
+ghost use Rattle.std.specs.Prelude.{◌≡◌, ℕ};
 ghost use Rattle.bus_states.specs.Straight.{stores_alone};
 ghost use Rattle.spec_bus.specs.Cached as cached;
 ghost use Rattle.turn_costs.specs.Accesses as spec;
-ghost use Rattle.turn_costs.specs.Actions.{AreFew};
 
 use crate::actions::Actions;
 use crate::store::PricedStore;
@@ -19,7 +18,6 @@ fn count_of(is: bool) -> u32
 
 /// Whether core `k` is another one, and has the line in which this address lies as M.
 fn is_modified_at(bus: &CachedBus, core: u32, k: u32, addr: u32) -> bool
-    requires { k < (cached.bus bus.now).shape.cores }
     ensures { result ≡ spec.is_modified_at (cached.bus bus.now) core (cached.line_of bus.now addr) k }
 {
     k != core && bus.line_at(k, addr).state.is_modified()
@@ -39,7 +37,6 @@ fn is_modified_elsewhere(bus: &CachedBus, core: u32, addr: u32) -> bool
 
 /// Whether the line that has to leave is M.
 fn leaves_modified(bus: &CachedBus, core: u32, addr: u32) -> bool
-    requires { core < (cached.bus bus.now).shape.cores }
     ensures { result ≡ spec.leaves_modified (cached.room bus.now core (cached.line_of bus.now addr)) }
 {
     match bus.room_at(core, addr) {
@@ -50,10 +47,8 @@ fn leaves_modified(bus: &CachedBus, core: u32, addr: u32) -> bool
 
 /// A miss.
 fn miss_of(bus: &CachedBus, core: u32, addr: u32) -> Actions
-    requires { core < (cached.bus bus.now).shape.cores }
-    ensures value { result ≡ spec.miss_of (cached.bus bus.now) core (cached.line_of bus.now addr)
+    ensures { result ≡ spec.miss_of (cached.bus bus.now) core (cached.line_of bus.now addr)
         (cached.room bus.now core (cached.line_of bus.now addr)) }
-    ensures few { AreFew result }
 {
     Actions {
         misses: 1,
@@ -65,9 +60,7 @@ fn miss_of(bus: &CachedBus, core: u32, addr: u32) -> Actions
 
 /// An access to the core's own copy, which tells the others or doesn't.
 fn hit_of(bus: &CachedBus, straight: bool, tells: bool, core: u32, addr: u32) -> Actions
-    requires { core < (cached.bus bus.now).shape.cores }
-    ensures value { result ≡ spec.hit_of (cached.bus bus.now) straight tells core (cached.line_of bus.now addr) }
-    ensures few { AreFew result }
+    ensures { result ≡ spec.hit_of (cached.bus bus.now) straight tells core (cached.line_of bus.now addr) }
 {
     let modified = bus.line_at(core, addr).state.is_modified();
     Actions {
@@ -79,7 +72,6 @@ fn hit_of(bus: &CachedBus, straight: bool, tells: bool, core: u32, addr: u32) ->
 
 /// Whether a store has to tell the others.
 fn store_tells(bus: &CachedBus, straight: bool, core: u32, addr: u32) -> bool
-    requires { core < (cached.bus bus.now).shape.cores }
     ensures { result ≡ spec.store_tells (cached.bus bus.now) straight core (cached.line_of bus.now addr) }
 {
     if straight {
@@ -121,6 +113,9 @@ impl PricedStore for CachedBus {
     }
 
     fn publish_lines(&self, core: u32) -> u32 {
+        if core >= self.cores() {
+            return 0;
+        }
         self.look();
         self.orb_at(core).len() as u32
     }

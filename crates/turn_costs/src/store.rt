@@ -27,19 +27,16 @@ pub trait PricedStore: EpochStore {
 
     /// What a load of a core does that costs, a straight or a speculative one.
     fn load_actions(&self, core: u32, straight: bool, addr: u32) -> Actions
-        requires { core < (Self.view self.now).shape.cores }
         ensures value { result ≡ (prices self.now).load straight core addr }
         ensures few { AreFew result };
 
     /// What a store of a core does that costs, a straight or a speculative one.
     fn store_actions(&self, core: u32, straight: bool, addr: u32) -> Actions
-        requires { core < (Self.view self.now).shape.cores }
         ensures value { result ≡ (prices self.now).store straight core addr }
         ensures few { AreFew result };
 
     /// How many lines the publish of a core asks for.
     fn publish_lines(&self, core: u32) -> u32
-        requires { core < (Self.view self.now).shape.cores }
         ensures value { result ≡ (prices self.now).lines core }
         ensures few { result ≤ 64 };
 
