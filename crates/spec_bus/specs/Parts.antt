@@ -5,10 +5,13 @@ use Rattle.bus_states.specs.Coherent.{IsCoherent, speculates}
 use Rattle.std.specs.Prelude.{◌+◌, ◌%◌, ◌<◌, ◌≤◌, ◌≡◌, ◌==◌, if◌then◌else◌, ℕ, Bool, false, List, length, Option, Some, None, option_map, slice_get, slice_index}
 use Rattle.rv32_image.specs.declared.machine.Machine.{Machine}
 use Rattle.violations.specs.CoreSet.{is_in}
+use Rattle.violations.specs.declared.step.Step.{Step}
 use Rattle.cache_lines.specs.Changes.{victim_of}
 use Rattle.cache_lines.specs.Lines.{Contents, geometry_of, line_in}
 use Rattle.bus_states.specs.Bus.{CoreState, Bus, no_core}
 use Rattle.bus_states.specs.Messages.{Room, Message, heard_core, is_busy, message_of, violates}
+use Rattle.bus_states.specs.Speculative.{load_wait, store_wait}
+use Rattle.spec_bus.specs.Answers.{MatchAnswer, IsLoaded, IsStored}
 use Rattle.spec_bus.specs.declared.bus_core.Core.{Core}
 use Rattle.spec_bus.specs.declared.messages.Sent.{Sent}
 use Rattle.spec_bus.specs.declared.parts.Parts.{Parts}
@@ -94,6 +97,20 @@ pub record IsAccessIn (p : Parts) (core addr offset width : ℕ) : Type 0 where
   pub in_line : offset + width ≤ p.machine.line_length
   pub wide : IsWidth width
   pub aligned : offset % width ≡ 0
+
+-- what a load of a core answers: it is done, or it waits and nothing has changed
+abbrev pub LoadAnswers : Step → Parts → Parts → ℕ → ℕ → ℕ → ℕ → Type 0
+LoadAnswers step old new core addr offset width =
+    MatchAnswer step
+    (λ value hurt. IsLoaded (bus_in old) (bus_in new) core addr offset width (room_at old.cores.items core addr) value hurt)
+    (λ cause. (load_wait (bus_in old) core addr (room_at old.cores.items core addr) ≡ Some cause) × (new ≡ old))
+
+-- what a store answers, which gives 0
+abbrev pub StoreAnswers : Step → Parts → Parts → ℕ → ℕ → ℕ → ℕ → ℕ → Type 0
+StoreAnswers step old new core addr offset width value =
+    MatchAnswer step
+    (λ answer hurt. (answer ≡ 0) × IsStored (bus_in old) (bus_in new) core addr offset width value (room_at old.cores.items core addr) hurt)
+    (λ cause. (store_wait (bus_in old) core addr offset width (room_at old.cores.items core addr) ≡ Some cause) × (new ≡ old))
 
 -- such an access of a core that doesn't speculate
 pub record IsStraightIn (p : Parts) (core addr offset width : ℕ) : Type 0 where

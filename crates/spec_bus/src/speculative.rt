@@ -6,8 +6,8 @@ ghost use Rattle.bus_states.specs.Bus.{sees};
 ghost use Rattle.bus_states.specs.Messages as message_spec;
 ghost use Rattle.memory_bytes.specs.Bytes.{number_at};
 ghost use Rattle.bus_states.specs.Speculative as speculative;
-ghost use Rattle.spec_bus.specs.Parts.{IsAccessIn, IsAtLine, MaySend, bus_in, line_at, room_at};
-ghost use Rattle.spec_bus.specs.Answers.{MatchAnswer, IsLoaded, MayTake, full_or_busy, IsTaken, IsStored};
+ghost use Rattle.spec_bus.specs.Parts.{IsAccessIn, IsAtLine, LoadAnswers, MaySend, StoreAnswers, bus_in, line_at, room_at};
+ghost use Rattle.spec_bus.specs.Answers.{MayTake, full_or_busy, IsTaken};
 ghost use Rattle.spec_states.specs.Rows.{owns_line};
 ghost use Rattle.bus_states.specs.declared.notice.Notice.TheVariants.{Load};
 
@@ -90,11 +90,7 @@ impl Parts {
     /// A speculative load of `width` bytes at `offset` of the line at `addr`.
     pub(crate) fn load(&mut self, core: usize, addr: u32, offset: u32, width: u32) -> Step
         requires { IsAccessIn self.old core addr offset width }
-        ensures { MatchAnswer result
-            (λ value hurt. IsLoaded (bus_in self.old) (bus_in self.new) core addr offset width
-            (room_at self.old.cores.items core addr) value hurt)
-            (λ cause. (speculative.load_wait (bus_in self.old) core addr (room_at self.old.cores.items core addr) ≡ Some cause)
-            × (self.new ≡ self.old)) }
+        ensures { LoadAnswers result self.old self.new core addr offset width }
     {
         if self.copy(core, addr).state.is_valid() {
             return Step::Done {
@@ -243,11 +239,7 @@ impl Parts {
         value: u32,
     ) -> Step
         requires { IsAccessIn self.old core addr offset width }
-        ensures { MatchAnswer result
-            (λ answer hurt. (answer ≡ 0) × IsStored (bus_in self.old) (bus_in self.new) core addr offset width value
-            (room_at self.old.cores.items core addr) hurt)
-            (λ cause. (speculative.store_wait (bus_in self.old) core addr offset width
-            (room_at self.old.cores.items core addr) ≡ Some cause) × (self.new ≡ self.old)) }
+        ensures { StoreAnswers result self.old self.new core addr offset width value }
     {
         match self.take_hold(core, addr, offset, width) {
             Ok(hurt) => {
