@@ -1,4 +1,4 @@
-ghost use Rattle.std.specs.Prelude.{◌≡◌, ◌<◌, ◌≤◌, ◌+◌, ◌^◌, ℕ, OnOk, IsSome, None, Some, length, slice_index, option_map, option_and_then, nat_lt, not, is_some, ◌==◌};
+ghost use Rattle.std.specs.Prelude.{◌≡◌, ◌<◌, ◌≤◌, ◌+◌, ◌^◌, ℕ, OnOk, IfSome, IsSome, None, Some, length, slice_index, option_map, option_and_then, nat_lt, not, is_some, ◌==◌};
 ghost use Rattle.memory_bytes.specs.Bytes.{IsWidth, number_at};
 ghost use Rattle.memory_bytes.specs.Maps.{over};
 ghost use Rattle.memory_bytes.specs.Shadow.{byte_in, IsAmong};
@@ -182,7 +182,8 @@ impl Core {
 
     /// The byte at an address that it has read from outside its own, if there is one.
     pub(crate) fn outside_byte(&self, addr: u32) -> Option<u8>
-        ensures { result ≡ option_and_then (λ c. c.outside addr) (spec.core_of self.now) }
+        ensures byte { result ≡ option_and_then (λ c. c.outside addr) (spec.core_of self.now) }
+        ensures within { (image : LoadedImage) → spec.IsCoreOf image self.now → IfSome result (λ _. addr < image.size) }
     {
         match &self.attempt {
             Some(_) => self.outside.get(addr),

@@ -1,4 +1,4 @@
-ghost use Rattle.std.specs.Prelude.{◌≡◌, ◌<◌, ℕ, IfOk, MatchResult, Some, None, if◌then◌else◌, length, nat_lt, option_map, option_and_then, slice_index};
+ghost use Rattle.std.specs.Prelude.{◌≡◌, ◌<◌, ℕ, IfOk, IfSome, MatchResult, Some, None, if◌then◌else◌, length, nat_lt, option_map, option_and_then, slice_index};
 ghost use Rattle.memory_bytes.specs.Shadow.{IsAmong};
 ghost use Rattle.spec_history.specs.FlatState.{first_state, arrival_of};
 ghost use Rattle.spec_history.specs.Replay.{replay};
@@ -81,6 +81,13 @@ impl Flat {
         self.machine.homefree
     }
 
+    /// Its copy of the image.
+    pub fn image(&self) -> &Image
+        ensures { result.now ≡ self.now.image }
+    {
+        &self.machine.image
+    }
+
     /// How many instructions of the homefree epoch are published.
     pub fn published(&self) -> u64
         ensures { result ≡ (spec.state_in self.now).published }
@@ -111,7 +118,8 @@ impl Flat {
 
     /// The byte at an address that a core has read from outside its own, with the value read, if there is one.
     pub fn outside(&self, core: u32, addr: u32) -> Option<u8>
-        ensures { result ≡ option_and_then (λ c. c.outside addr) ((spec.state_in self.now).cores core) }
+        ensures byte { result ≡ option_and_then (λ c. c.outside addr) ((spec.state_in self.now).cores core) }
+        ensures within { IfSome result (λ _. addr < self.now.image.size) }
     {
         self.machine.core(core)?.outside_byte(addr)
     }
