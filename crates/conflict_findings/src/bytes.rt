@@ -2,35 +2,39 @@
 
 ghost use Rattle.std.specs.Prelude.{◌≡◌, ◌<◌, ◌≤◌, ◌+◌, ◌++◌, ◌^◌, ◌==◌, not, ℕ, IfOk, OnOk, None, option_to_list, if◌then◌else◌, true};
 ghost use Rattle.spec_history.specs.declared.kind.Kind.TheVariants.{SilentStore};
-ghost use Rattle.conflicts.specs.Behind.{IsBehind};
+ghost use Rattle.conflicts.specs.Attempts.{first_read};
 ghost use Rattle.conflicts.specs.Parties.{meeting_in};
 ghost use Rattle.conflicts.specs.Violated.{violation_in};
 ghost use Rattle.conflict_findings.specs.Runs as spec;
 
 use crate::run::{Run, Told, end_of, keep};
-use conflicts::{Behind, Violated};
+use conflicts::Scene;
 use rv32_exec::Image;
-use spec_history::{Entry, Flat};
 use std::alloc::AllocError;
 
-impl Told {
-    /// The run of a byte.
-    fn run_at(
-        &self,
-        image: &Image,
-        flat: &Flat,
-        entries: &[Entry],
-        behind: &Behind,
-        addr: u32,
-    ) -> Option<Run>
-        requires image { flat.now.image ≡ image.now }
-        requires known { IsBehind image.now.size entries.now behind.now }
-        requires within { addr < image.now.size }
-        ensures { result ≡ spec.run_at image.now entries.now (violation_in flat.now self.now.violated) addr }
+impl Told<'_> {
+    /// The first load of the victim that read a byte from outside.
+    pub(crate) fn read_at(&self, addr: u32) -> Option<usize>
+        requires { addr < self.now.scene.flat.now.image.size }
+        ensures { result ≡ first_read self.now.scene.entries.now self.now.violated.parties.victim self.now.violated.place addr }
     {
-        let Violated { parties, place, .. } = self.violated;
-        let load = behind.first_read(entries, parties.victim, place, addr)?;
-        self.run_of(image, flat, entries, behind, load, addr)
+        let core = self.violated.parties.victim;
+        let Scene {
+            entries,
+            behind,
+            ..
+        } = self.scene;
+        behind.first_read(entries, core, self.violated.place, addr)
+    }
+
+    /// The run of a byte.
+    fn run_at(&self, addr: u32) -> Option<Run>
+        requires { addr < self.now.scene.flat.now.image.size }
+        ensures { result ≡ spec.run_at self.now.scene.flat.now.image self.now.scene.entries.now
+            (violation_in self.now.scene.flat.now self.now.violated) addr }
+    {
+        let load = self.read_at(addr)?;
+        self.run_of(load, addr)
     }
 
     /// The run of a byte, if it begins there and isn't the blamed one.
@@ -50,55 +54,38 @@ impl Told {
 
     /// Adds the run that begins at a byte to the end of a list, if there is a further one. Gives the first address above the byte that is not
     /// of its run: no other begins within.
-    fn tell_at(
-        &self,
-        runs: &mut Vec<Run>,
-        image: &Image,
-        flat: &Flat,
-        entries: &[Entry],
-        behind: &Behind,
-        addr: u32,
-    ) -> Result<u32, AllocError>
-        requires image { flat.now.image ≡ image.now }
-        requires known { IsBehind image.now.size entries.now behind.now }
+    fn tell_at(&self, runs: &mut Vec<Run>, addr: u32) -> Result<u32, AllocError>
         requires kind { self.now.violated.kind ≡ SilentStore }
-        requires within { addr < image.now.size }
-        ensures told { OnOk result (runs.new.items ≡ runs.old.items
-            ++ option_to_list (spec.shared_run image.now entries.now self.now.blame (violation_in flat.now self.now.violated) addr)) }
-        ensures next { IfOk result (λ next. (addr < next) × (next ≤ image.now.size)) }
-        ensures none { IfOk result (λ next. (j : ℕ) → addr < j → j < next
-            → spec.shared_run image.now entries.now self.now.blame (violation_in flat.now self.now.violated) j ≡ None) }
+        requires within { addr < self.now.scene.flat.now.image.size }
+        ensures told { OnOk result (runs.new.items ≡ runs.old.items ++ option_to_list (spec.shared_run self.now.scene.flat.now.image
+            self.now.scene.entries.now self.now.blame (violation_in self.now.scene.flat.now self.now.violated) addr)) }
+        ensures next { IfOk result (λ next. (addr < next) × (next ≤ self.now.scene.flat.now.image.size)) }
+        ensures none { IfOk result (λ next. (j : ℕ) → addr < j → j < next → spec.shared_run self.now.scene.flat.now.image
+            self.now.scene.entries.now self.now.blame (violation_in self.now.scene.flat.now self.now.violated) j ≡ None) }
     {
+        let flat = self.scene.flat;
+        let image = flat.image();
         let next = after_byte(image, addr);
         if !self.violated.parties.is_shared(flat, addr) {
             return Ok(next);
         }
-        let run = self.run_at(image, flat, entries, behind, addr);
+        let run = self.run_at(addr);
         keep(runs, self.further(run, addr))?;
         Ok(end_after(image, run, addr))
     }
 
     /// The further runs of bytes, in ascending order, at the end of a list. It takes the bytes that the victim has read, in that order.
-    pub(crate) fn push_shared(
-        &self,
-        runs: &mut Vec<Run>,
-        image: &Image,
-        flat: &Flat,
-        entries: &[Entry],
-        behind: &Behind,
-        read: &[u32],
-    ) -> Result<(), AllocError>
-        requires image { flat.now.image ≡ image.now }
-        requires known { IsBehind image.now.size entries.now behind.now }
-        requires read { spec.AreRead image.now.size (meeting_in flat.now self.now.violated.parties).reads read.now }
+    pub(crate) fn push_shared(&self, runs: &mut Vec<Run>, read: &[u32]) -> Result<(), AllocError>
+        requires read { spec.AreRead self.now.scene.flat.now.image.size (meeting_in self.now.scene.flat.now self.now.violated.parties).reads read.now }
         requires kind { self.now.violated.kind ≡ SilentStore }
         ensures { OnOk result (runs.new.items ≡ runs.old.items
-            ++ spec.runs_below image.now.size (spec.shared_run image.now entries.now self.now.blame (violation_in flat.now self.now.violated))) }
+            ++ spec.runs_below self.now.scene.flat.now.image.size (spec.shared_run self.now.scene.flat.now.image
+            self.now.scene.entries.now self.now.blame (violation_in self.now.scene.flat.now self.now.violated))) }
     {
         let mut from = 0;
         for addr in read {
             if *addr >= from {
-                from = self.tell_at(runs, image, flat, entries, behind, *addr)?;
+                from = self.tell_at(runs, *addr)?;
             }
         }
         Ok(())

@@ -3,54 +3,39 @@
 ghost use Rattle.std.specs.Prelude.{◌≡◌, ℕ, IfOk, OnOk, Option, Some, ◌++◌};
 ghost use Rattle.spec_history.specs.View.{state_in};
 ghost use Rattle.spec_history.specs.Conflict as conflict;
-ghost use Rattle.conflicts.specs.Behind.{IsBehind};
 ghost use Rattle.conflict_findings.specs.Findings.{further_in};
 ghost use Rattle.conflict_findings.specs.Runs as spec;
 
 use crate::finding::{FurtherRun, what_at, with_instructions};
-use crate::run::{Run, Told};
-use conflicts::{Behind, Explanation, Kind, Parties, Site, Violated, line_number};
+use crate::run::{Run, Told, beside};
+use conflicts::{Explanation, Kind, Parties, Scene, Site, Violated, line_number};
 use rv32_exec::Image;
-use spec_history::{Entry, Flat};
+use spec_history::Flat;
 use std::alloc::{AllocError, Global};
 
-/// The further runs of bytes at which the epochs of a violation met. It takes the machine before the violation, the whole history and
-/// its sites, what is known of attempts, and the explanation.
+/// The further runs of bytes at which the epochs of a violation met. It takes the scene of the violation, the sites of the
+/// history, and the explanation.
 ///
 /// First those of bytes that the cause writes and the victim had read, by their addresses; then one for each line of which both
 /// have a byte but share none, by their numbers. The blamed run is left out.
 pub fn further_runs(
     alloc: Global,
-    image: &Image,
-    flat: &Flat,
-    entries: &[Entry],
+    scene: &Scene<'_>,
     sites: &[Option<Site>],
-    behind: &Behind,
     e: Explanation,
 ) -> Result<Vec<FurtherRun>, AllocError>
-    requires image { flat.now.image ≡ image.now }
-    requires known { IsBehind image.now.size entries.now behind.now }
-    ensures { IfOk result (λ further. further.items ≡ further_in image.now entries.now sites.now e (Some (state_in flat.now))) }
+    ensures { IfOk result (λ further. further.items ≡ further_in scene.now.flat.now.image scene.now.entries.now sites.now e (Some (state_in scene.now.flat.now))) }
 {
-    let runs = runs_of(alloc, image, flat, entries, behind, e)?;
+    let runs = runs_of(alloc, scene, e)?;
     with_instructions(alloc, sites, runs.as_slice())
 }
 
 /// The same without their instructions.
-fn runs_of(
-    alloc: Global,
-    image: &Image,
-    flat: &Flat,
-    entries: &[Entry],
-    behind: &Behind,
-    e: Explanation,
-) -> Result<Vec<Run>, AllocError>
-    requires image { flat.now.image ≡ image.now }
-    requires known { IsBehind image.now.size entries.now behind.now }
-    ensures { IfOk result (λ runs. runs.items ≡ spec.runs_in image.now entries.now e (Some (state_in flat.now))) }
+fn runs_of(alloc: Global, scene: &Scene<'_>, e: Explanation) -> Result<Vec<Run>, AllocError>
+    ensures { IfOk result (λ runs. runs.items ≡ spec.runs_in scene.now.flat.now.image scene.now.entries.now e (Some (state_in scene.now.flat.now))) }
 {
     let mut runs = Vec::new(alloc);
-    push_runs(alloc, &mut runs, image, flat, entries, behind, e)?;
+    push_runs(alloc, &mut runs, scene, e)?;
     Ok(runs)
 }
 
@@ -81,23 +66,18 @@ fn lines_in_order(alloc: Global, image: &Image, read: &[u32]) -> Result<Vec<u32>
 fn push_runs(
     alloc: Global,
     runs: &mut Vec<Run>,
-    image: &Image,
-    flat: &Flat,
-    entries: &[Entry],
-    behind: &Behind,
+    scene: &Scene<'_>,
     e: Explanation,
 ) -> Result<(), AllocError>
-    requires image { flat.now.image ≡ image.now }
-    requires known { IsBehind image.now.size entries.now behind.now }
-    ensures { OnOk result (runs.new.items ≡ runs.old.items ++ spec.runs_in image.now entries.now e (Some (state_in flat.now))) }
+    ensures { OnOk result (runs.new.items ≡ runs.old.items ++ spec.runs_in scene.now.flat.now.image scene.now.entries.now e (Some (state_in scene.now.flat.now))) }
 {
     let Some(cause) = e.cause else {
         return Ok(());
     };
-    let Some(what) = what_at(entries, e.cause) else {
+    let Some(what) = what_at(scene.entries, e.cause) else {
         return Ok(());
     };
-    let read = in_order(alloc, flat, e.victim.core)?;
+    let read = in_order(alloc, scene.flat, e.victim.core)?;
     let shared = Told {
         violated: Violated {
             parties: Parties {
@@ -109,10 +89,14 @@ fn push_runs(
             place: e.place,
             cause,
         },
+        scene: *scene,
         blame: e.blame,
     };
-    shared.push_shared(runs, image, flat, entries, behind, read.as_slice())?;
-    let lines = lines_in_order(alloc, image, read.as_slice())?;
-    let told = shared.beside();
-    told.push_lines(runs, image, flat, entries, behind, lines.as_slice())
+    shared.push_shared(runs, read.as_slice())?;
+    let lines = lines_in_order(alloc, scene.flat.image(), read.as_slice())?;
+    let told = Told {
+        violated: beside(shared.violated),
+        ..shared
+    };
+    told.push_lines(runs, lines.as_slice())
 }

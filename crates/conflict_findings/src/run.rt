@@ -1,19 +1,17 @@
 //! The run of a byte: its neighbours that met at the same two accesses.
 
-ghost use Rattle.std.specs.Prelude.{◌≡◌, ◌<◌, ◌≤◌, ◌+◌, ◌++◌, ◌&&◌, ℕ, OnOk, Some, option_to_list, true};
+ghost use Rattle.std.specs.Prelude.{◌≡◌, ◌<◌, ◌≤◌, ◌+◌, ◌++◌, ◌&&◌, ℕ, OnOk, option_to_list, true};
 ghost use Rattle.spec_history.specs.Refusal.{any_below};
 ghost use Rattle.spec_history.specs.declared.kind.Kind.TheVariants.{FalseSharing};
 ghost use Rattle.conflicts.specs.Attempts as attempts;
-ghost use Rattle.conflicts.specs.Behind.{IsBehind};
-ghost use Rattle.conflicts.specs.Blame as blame;
 ghost use Rattle.spec_history.specs.Conflict as conflict;
 ghost use Rattle.conflicts.specs.Parties.{meeting_in};
 ghost use Rattle.conflicts.specs.Violated.{violation_in};
 ghost use Rattle.conflict_findings.specs.Runs as spec;
 
-use conflicts::{Behind, Blame, BlamedByte, ByteRange, Kind, Violated};
+use conflicts::{Blame, BlamedByte, ByteRange, Kind, Parties, Scene, Violated};
 use rv32_exec::Image;
-use spec_history::{Entry, Flat};
+use spec_history::Flat;
 use std::alloc::AllocError;
 
 /// Neighbouring bytes at which two epochs met, all of them first read by the same load, and given their value by the same store.
@@ -31,11 +29,12 @@ pub struct Run {
     pub bytes: ByteRange,
 }
 
-/// A violation whose runs are told: of bytes that are written and were read, where it is taken for a silent store, and of lines, where it is taken for false
-/// sharing.
+/// A violation whose runs are told, at its scene: of bytes that are written and were read, where it is taken for a silent store, and of
+/// lines, where it is taken for false sharing.
 #[derive(Clone, Copy)]
-pub(crate) struct Told {
+pub(crate) struct Told<'h> {
     pub violated: Violated,
+    pub scene: Scene<'h>,
     /// The blamed pair.
     pub blame: Option<Blame>,
 }
@@ -59,90 +58,70 @@ pub(crate) fn keep(runs: &mut Vec<Run>, found: Option<Run>) -> Result<(), AllocE
     Ok(())
 }
 
-impl Told {
-    /// The same, taken for false sharing.
-    pub(crate) fn beside(self) -> Told
-        ensures { result ≡ record {
-          violated = record { parties = self.violated.parties; kind = FalseSharing; place = self.violated.place; cause = self.violated.cause };
-          blame = self.blame;
-        } }
-    {
-        Told {
-            violated: Violated {
-                parties: self.violated.parties,
-                kind: Kind::FalseSharing,
-                place: self.violated.place,
-                cause: self.violated.cause,
-            },
-            blame: self.blame,
+/// The violation, taken for false sharing.
+pub(crate) fn beside(violated: Violated) -> Violated
+    ensures { result ≡ record { parties = violated.parties; kind = FalseSharing; place = violated.place; cause = violated.cause } }
+{
+    Violated {
+        kind: Kind::FalseSharing,
+        ..violated
+    }
+}
+
+/// The cause changes one of the bytes.
+fn changes(parties: &Parties, flat: &Flat, bytes: ByteRange) -> bool
+    ensures { result ≡ any_below flat.now.image.size
+        (λ a. attempts.covers bytes.first bytes.length a && conflict.is_changed (meeting_in flat.now parties.now) a) }
+{
+    for addr in bytes.first..end_of(flat.image(), bytes) {
+        if parties.is_changed(flat, addr) {
+            return true;
         }
     }
+    false
+}
 
-    /// The cause changes one of the bytes.
-    fn changes(&self, image: &Image, flat: &Flat, bytes: ByteRange) -> bool
-        requires { flat.now.image ≡ image.now }
-        ensures { result ≡ any_below image.now.size
-            (λ a. attempts.covers bytes.first bytes.length a && conflict.is_changed (meeting_in flat.now self.now.violated.parties) a) }
-    {
-        for addr in bytes.first..end_of(image, bytes) {
-            if self.violated.parties.is_changed(flat, addr) {
-                return true;
-            }
-        }
-        false
+/// The run of a blamed byte.
+fn run_with(blamed: &BlamedByte<'_>) -> Run
+    ensures { result ≡ spec.run_with blamed.now.scene.flat.now.image blamed.now.scene.entries.now
+        (violation_in blamed.now.scene.flat.now blamed.now.violated) blamed.now.load blamed.now.byte blamed.now.store }
+{
+    let Violated { parties, kind, .. } = blamed.violated;
+    let bytes = blamed.range();
+    let kind = if changes(&parties, blamed.scene.flat, bytes) {
+        Kind::TrueSharing
+    } else {
+        kind
+    };
+    Run {
+        kind,
+        load: blamed.load,
+        store: blamed.store,
+        bytes,
     }
+}
 
-    /// The run of a byte that this load read first, and this store gave its value.
-    fn run_with(
-        &self,
-        image: &Image,
-        flat: &Flat,
-        entries: &[Entry],
-        behind: &Behind,
-        pair: BlamedByte,
-    ) -> Run
-        requires image { flat.now.image ≡ image.now }
-        requires known { IsBehind image.now.size entries.now behind.now }
-        requires stored { blame.blamed_store image.now entries.now (violation_in flat.now self.now.violated) pair.byte ≡ Some pair.store }
-        requires within { pair.byte < image.now.size }
-        ensures { result ≡ spec.run_with image.now entries.now (violation_in flat.now self.now.violated) pair.load pair.byte pair.store }
-    {
-        let bytes = self.violated.range(image, flat, entries, behind, pair);
-        let kind = if self.changes(image, flat, bytes) {
-            Kind::TrueSharing
-        } else {
-            self.violated.kind
-        };
-        Run {
-            kind,
-            load: pair.load,
-            store: pair.store,
-            bytes,
-        }
-    }
-
+impl Told<'_> {
     /// The run of a byte that this load read first.
-    pub(crate) fn run_of(
-        &self,
-        image: &Image,
-        flat: &Flat,
-        entries: &[Entry],
-        behind: &Behind,
-        load: usize,
-        addr: u32,
-    ) -> Option<Run>
-        requires image { flat.now.image ≡ image.now }
-        requires known { IsBehind image.now.size entries.now behind.now }
-        requires within { addr < image.now.size }
-        ensures { result ≡ spec.run_of image.now entries.now (violation_in flat.now self.now.violated) load addr }
+    pub(crate) fn run_of(&self, load: usize, addr: u32) -> Option<Run>
+        requires { addr < self.now.scene.flat.now.image.size }
+        ensures { result ≡ spec.run_of self.now.scene.flat.now.image self.now.scene.entries.now
+            (violation_in self.now.scene.flat.now self.now.violated) load addr }
     {
-        let store = self.violated.store(image, flat, entries, behind, addr)?;
-        let pair = BlamedByte {
+        let Told {
+            violated,
+            scene,
+            ..
+        } = *self;
+        let store = violated.store(&scene, addr)?;
+        let blamed = BlamedByte {
+            violated,
+            scene,
             load,
             store,
             byte: addr,
         };
-        Some(self.run_with(image, flat, entries, behind, pair))
+        Some(run_with(&blamed))
     }
 
     /// The blamed run begins at this byte.

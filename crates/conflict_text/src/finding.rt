@@ -7,7 +7,6 @@ ghost use Rattle.spec_history.specs.View.{IsAuditFault, state_in};
 ghost use Rattle.trace_commands.specs.declared.outcome.Verdict.TheVariants.{Legal};
 ghost use Rattle.trace_commands.specs.Audit.{IsVerdict};
 ghost use Rattle.conflicts.specs.declared.standing.Site.{Site};
-ghost use Rattle.conflicts.specs.Behind.{IsBehind};
 ghost use Rattle.conflicts.specs.Sites.{sites_before};
 ghost use Rattle.conflict_findings.specs.declared.rollback.Rollback.{Rollback};
 ghost use Rattle.conflict_findings.specs.AllSums.{AreAllSums};
@@ -26,7 +25,7 @@ use crate::report::{Totals, push_totals, totals_of};
 use conflict_findings::{
     Ended, Ending, Ends, Followed, Running, Sums, ended_by, finding_of, further_runs, running_in,
 };
-use conflicts::{Behind, Explanation, Known, Site, explanation_at, sites};
+use conflicts::{Explanation, Known, Scene, Site, explanation_at, sites};
 use rv32_exec::Image;
 use spec_history::{Entry, Flat, Illegal};
 use std::alloc::{AllocError, Global};
@@ -230,12 +229,16 @@ impl Gathering {
         ensures gathered { OnOk result (IsGathered all sited.now.image.now cores sited.now.entries.now sited.now.sites.now (length sited.now.entries.now) self.new) }
         ensures running { IfOk result (λ running. running.items ≡ running_after sited.now.image.now cores sited.now.entries.now) }
     {
-        let Sited { image, entries, .. } = sited;
+        let Sited { entries, sites, .. } = sited;
         for (place, entry) in entries.iter().enumerate() {
             let known = &mut self.known;
-            let explained = explanation_at(alloc, image, cores, &self.flat, entries, known, place)?;
-            self.findings
-                .keep(alloc, sited, &self.flat, &self.known.behind, explained)?;
+            let explained = explanation_at(alloc, cores, &self.flat, entries, known, place)?;
+            let scene = Scene {
+                flat: &self.flat,
+                entries,
+                behind: &self.known.behind,
+            };
+            self.findings.keep(alloc, &scene, sites, explained)?;
             let followed = &self.findings.followed;
             let found = ended_by(&self.flat, cores, entries, followed, place, *entry);
             keep_ended(&mut self.ended, all, found)?;
@@ -264,36 +267,30 @@ impl Findings {
         }
     }
 
-    /// With what is found of an explanation, if there is one: its lines, and what it cost. It takes the machine before the violation.
+    /// With what is found of an explanation, if there is one: its lines, and what it cost. It takes the scene of the violation.
     fn keep(
         &mut self,
         alloc: Global,
-        sited: &Sited<'_>,
-        flat: &Flat,
-        behind: &Behind,
+        scene: &Scene<'_>,
+        sites: &[Option<Site>],
         explained: Option<Explanation>,
     ) -> Result<(), AllocError>
-        requires image { flat.now.image ≡ sited.now.image.now }
-        requires known { IsBehind sited.now.image.now.size sited.now.entries.now behind.now }
-        requires followed { IsFollowed sited.now.entries.now self.old.followed }
+        requires followed { IsFollowed scene.now.entries.now self.old.followed }
         requires noted { IfSome explained (λ e. self.old.followed.numbers.place ≡ e.place) }
         requires summed { (rollbacks : List Rollback) × AreAllSums rollbacks self.old.sums }
-        ensures told { OnOk result (self.new.lines.items ≡ self.old.lines.items ++ spec.lines_of sited.now.image.now (state_in flat.now) sited.now.entries.now sited.now.sites.now explained) }
+        ensures told { OnOk result (self.new.lines.items ≡ self.old.lines.items
+            ++ spec.lines_of scene.now.flat.now.image (state_in scene.now.flat.now) scene.now.entries.now sites.now explained) }
         ensures summed { OnOk result ((rollbacks : List Rollback) → AreAllSums rollbacks self.old.sums
-            → AreAllSums (rollbacks ++ option_to_list (option_map (rollback_at sited.now.image.now sited.now.entries.now sited.now.sites.now) explained)) self.new.sums) }
-        ensures followed { OnOk result (IsFollowed sited.now.entries.now self.new.followed) }
+            → AreAllSums (rollbacks ++ option_to_list (option_map (rollback_at scene.now.flat.now.image scene.now.entries.now sites.now) explained)) self.new.sums) }
+        ensures followed { OnOk result (IsFollowed scene.now.entries.now self.new.followed) }
         ensures noted { OnOk result (self.new.followed.numbers.place ≡ self.old.followed.numbers.place) }
     {
         let Some(e) = explained else {
             return Ok(());
         };
-        let Sited {
-            image,
-            entries,
-            sites,
-        } = sited;
-        let further = further_runs(alloc, image, flat, entries, sites, behind, e)?;
-        let found = finding_of(image, entries, sites, &mut self.followed, &e);
+        let (image, followed) = (scene.flat.image(), &mut self.followed);
+        let further = further_runs(alloc, scene, sites, e)?;
+        let found = finding_of(image, scene.entries, sites, followed, &e);
         push_violation(&mut self.lines, &found, further.as_slice())?;
         let rollback = found.rollback();
         self.sums.add(&rollback)?;

@@ -117,11 +117,11 @@ next_of image (Some c) next is = (c, refl, cc)
 runs_it : (core : Option CoreState) (c : CoreState) (epoch : ℕ) → core ≡ Some c → is_at epoch core ≡ true → epoch ≡ c.epoch
 runs_it core c epoch at is = sym (eqb-true c.epoch epoch (sym (ap (is_at epoch) at) ∙ is))
 
-pub explained_by : (image own : LoadedImage) (s : FlatState) (entries : List Entry) (place : ℕ) (entry : Entry) (epoch causing victim : ℕ) (next : Arrival) (cause : Option ℕ) (kind : Kind) (blame : Option Blame) (later : Option ℕ) (lost entered : ℕ)
-    → own ≡ image → slice_get entries place ≡ Some entry → entry.what ≡ Hurt epoch
+pub explained_by : (image : LoadedImage) (s : FlatState) (entries : List Entry) (place : ℕ) (entry : Entry) (epoch causing victim : ℕ) (next : Arrival) (cause : Option ℕ) (kind : Kind) (blame : Option Blame) (later : Option ℕ) (lost entered : ℕ)
+    → slice_get entries place ≡ Some entry → entry.what ≡ Hurt epoch
     → option_map (λ (c : CoreState). c.epoch) (s.cores entry.by) ≡ Some causing
     → is_at epoch (s.cores victim) ≡ true
-    → option_map (λ (c : CoreState). arrival_of own c.hart) (s.cores victim) ≡ Some next
+    → option_map (λ (c : CoreState). arrival_of image c.hart) (s.cores victim) ≡ Some next
     → cause ≡ cause_of entries place entry.by
     → kind ≡ kind_of image s entry.by victim (what_at entries cause)
     → blame ≡ blame_by image s entries place entry.by victim kind cause (what_at entries cause)
@@ -138,9 +138,9 @@ pub explained_by : (image own : LoadedImage) (s : FlatState) (entries : List Ent
       lost = lost;
       entered = entered;
     })
-explained_by image own s entries place entry epoch causing victim next cause kind blame later lost entered same at is by_epoch here by_next by_cause by_kind by_blame by_later by_lost by_entered =
+explained_by image s entries place entry epoch causing victim next cause kind blame later lost entered at is by_epoch here by_next by_cause by_kind by_blame by_later by_lost by_entered =
     let a = epoch_of (s.cores entry.by) causing by_epoch in
-    let v = next_of own (s.cores victim) next by_next in
+    let v = next_of image (s.cores victim) next by_next in
     record {
       causing = a.0;
       causer_runs = a.1;
@@ -153,12 +153,12 @@ explained_by image own s entries place entry epoch causing victim next cause kin
       kind = by_kind;
       blame = by_blame;
       later = by_later;
-      lost = by_lost ∙ (ap (λ (n : Arrival). n.now.done) v.2 ∙ ap (λ (i : LoadedImage). (arrival_of i v.0.hart).now.done) same);
+      lost = by_lost ∙ ap (λ (n : Arrival). n.now.done) v.2;
       entered = by_entered ∙ ap (λ (n : Arrival). n.base.done) v.2;
     }
 
-pub legal_in : (image own : LoadedImage) (count n : ℕ) (s : FlatState) (entry : Entry) → own ≡ image → n ≡ count → refusal_of own n s entry ≡ None → refusal_of image count s entry ≡ None
-legal_in image own count n s entry same counts legal = ap (λ i. refusal_of i count s entry) (sym same) ∙ (ap (λ m. refusal_of own m s entry) (sym counts) ∙ legal)
+pub legal_in : (image : LoadedImage) (count n : ℕ) (s : FlatState) (entry : Entry) → n ≡ count → refusal_of image n s entry ≡ None → refusal_of image count s entry ≡ None
+legal_in image count n s entry counts legal = ap (λ m. refusal_of image m s entry) (sym counts) ∙ legal
 
 pub hurt_there : (entries : List Entry) (place : ℕ) (entry : Entry) (epoch : ℕ) → slice_get entries place ≡ Some entry → entry.what ≡ Hurt epoch
     → true ≡ entry_is entries place (λ e. is_hurt e.what)

@@ -43,7 +43,8 @@ fn number_past(image: &Image, addr: u32) -> u32
 
 /// How many lines of the caches memory has.
 pub(crate) fn lines_of(image: &Image) -> u32
-    ensures { result ≡ conflict.line_count image.now }
+    ensures lines { result ≡ conflict.line_count image.now }
+    ensures limits { IsImage image.now }
 {
     line_number(image, image.size())
 }
@@ -62,14 +63,31 @@ fn piece_bytes(apart: Apart, piece: u32) -> ByteRange
 }
 
 /// Where the bytes of a line of the caches are. Those of a line of memory are at its addresses, but for those there that lie apart. A
-/// line behind memory has the bytes of a piece.
+/// line behind memory has the bytes of a piece. There are none of a line that memory doesn't have.
 pub fn line_bytes(image: &Image, line: u32) -> ByteRange
+    ensures bytes { line < conflict.line_count image.now → result ≡ blame.line_bytes image.now line }
+    ensures within { result.first + result.length ≤ image.now.size }
+    ensures all { (a : ℕ) → a < image.now.size → conflict.line_number image.now a ≡ line
+        → (result.first ≤ a) × (a < result.first + result.length) }
+    ensures limits { IsImage image.now }
+{
+    if line < lines_of(image) {
+        bytes_of(image, line)
+    } else {
+        ByteRange {
+            first: 0,
+            length: 0,
+        }
+    }
+}
+
+/// Where the bytes of a line are that memory has.
+fn bytes_of(image: &Image, line: u32) -> ByteRange
     requires { line < conflict.line_count image.now }
     ensures bytes { result ≡ blame.line_bytes image.now line }
     ensures within { result.first + result.length ≤ image.now.size }
     ensures all { (a : ℕ) → a < image.now.size → conflict.line_number image.now a ≡ line
         → (result.first ≤ a) × (a < result.first + result.length) }
-    ensures limits { IsImage image.now }
 {
     let long = image.machine().line_length;
     let lines = image.size() / long;

@@ -1,28 +1,32 @@
 //! The neighbouring bytes at which a blamed load and a blamed store met.
 
 ghost use Rattle.std.specs.Prelude.{◌≡◌, ◌<◌, ◌≤◌, ◌&&◌, not, nat_lt, Some, unwrap_or};
-ghost use Rattle.conflicts.specs.Behind.{IsBehind};
 ghost use Rattle.conflicts.specs.Blame as blame;
 ghost use Rattle.conflicts.specs.Parties.{meeting_in};
 ghost use Rattle.spec_history.specs.Searches.{first_below, last_below};
 ghost use Rattle.conflicts.specs.Violated as spec;
 
 use crate::addresses::line_number;
-use crate::behind::Behind;
 use crate::blame::Violated;
 use crate::explanation::ByteRange;
-use rv32_exec::Image;
-use spec_history::{Entry, Flat, Kind, What};
+use crate::scene::Scene;
+use spec_history::{Flat, Kind, What};
 
-/// A blamed byte, with its load and its store.
+/// A blamed byte of a violation, at the scene of the violation, with its load and its store.
 #[derive(Clone, Copy)]
-pub struct BlamedByte {
-    /// The load that read it first, by its place in the history.
+pub struct BlamedByte<'h> {
+    /// The violation.
+    pub violated: Violated,
+    /// Its scene.
+    pub scene: Scene<'h>,
+    /// The load that read the byte first, by its place in the history.
     pub load: usize,
     /// The store to blame for it.
     pub store: usize,
     /// Its address.
     pub byte: u32,
+    pub ghost within: { byte < scene.flat.now.image.size },
+    pub ghost stored: { blame.blamed_store scene.flat.now.image scene.entries.now (spec.violation_in scene.flat.now violated) byte ≡ Some store },
 }
 
 /// The place is that one.
@@ -37,14 +41,13 @@ fn is_at(found: Option<usize>, place: usize) -> bool
 
 impl Violated {
     /// The byte goes with a blamed one.
-    fn goes_with(&self, image: &Image, flat: &Flat, byte: u32, addr: u32) -> bool
-        requires blamed { byte < image.now.size }
-        requires within { addr < image.now.size }
-        ensures { result ≡ blame.goes_with image.now self.now.kind (meeting_in flat.now self.now.parties) byte addr }
+    fn goes_with(&self, flat: &Flat, byte: u32, addr: u32) -> bool
+        ensures { result ≡ blame.goes_with flat.now.image self.now.kind (meeting_in flat.now self.now.parties) byte addr }
     {
         match self.kind {
             Kind::FalseSharing => {
-                self.parties.is_beside(image, flat, addr)
+                let image = flat.image();
+                self.parties.is_beside(flat, addr)
                     && line_number(image, addr) == line_number(image, byte)
             }
             _ => self.parties.is_shared(flat, addr),
@@ -57,104 +60,75 @@ impl Violated {
     {
         matches!(self.kind, Kind::FalseSharing) || matches!(self.parties.cause, What::Store { .. })
     }
+}
 
-    /// The byte met at the same two accesses as the blamed one.
-    fn is_alike(
-        &self,
-        image: &Image,
-        flat: &Flat,
-        entries: &[Entry],
-        behind: &Behind,
-        pair: BlamedByte,
-        addr: u32,
-    ) -> bool
-        requires known { IsBehind image.now.size entries.now behind.now }
-        requires blamed { pair.byte < image.now.size }
-        requires stored { blame.blamed_store image.now entries.now (spec.violation_in flat.now self.now) pair.byte ≡ Some pair.store }
-        requires within { addr < image.now.size }
-        ensures { result ≡ blame.is_alike image.now entries.now (spec.violation_in flat.now self.now) pair.load pair.store pair.byte addr }
+impl BlamedByte<'_> {
+    /// A byte met at the same two accesses.
+    fn is_alike(&self, addr: u32) -> bool
+        requires { addr < self.now.scene.flat.now.image.size }
+        ensures { result ≡ blame.is_alike self.now.scene.flat.now.image self.now.scene.entries.now
+            (spec.violation_in self.now.scene.flat.now self.now.violated) self.now.load self.now.store self.now.byte addr }
     {
-        if !self.goes_with(image, flat, pair.byte, addr) {
+        let Violated { parties, place, .. } = self.violated;
+        let Scene {
+            flat,
+            entries,
+            behind,
+        } = self.scene;
+        if !self.violated.goes_with(flat, self.byte, addr) {
             return false;
         }
-        let read = behind.first_read(entries, self.parties.victim, self.place, addr);
-        if !is_at(read, pair.load) {
+        let read = behind.first_read(entries, parties.victim, place, addr);
+        if !is_at(read, self.load) {
             return false;
         }
-        if self.has_one_store() {
+        if self.violated.has_one_store() {
             return true;
         }
-        let stored = behind.last_store(entries, self.parties.causer, self.place, addr);
-        is_at(stored, pair.store)
+        let stored = behind.last_store(entries, parties.causer, place, addr);
+        is_at(stored, self.store)
     }
 
-    /// The first of the neighbours of a blamed byte that met alike.
-    fn range_first(
-        &self,
-        image: &Image,
-        flat: &Flat,
-        entries: &[Entry],
-        behind: &Behind,
-        pair: BlamedByte,
-    ) -> u32
-        requires known { IsBehind image.now.size entries.now behind.now }
-        requires blamed { pair.byte < image.now.size }
-        requires stored { blame.blamed_store image.now entries.now (spec.violation_in flat.now self.now) pair.byte ≡ Some pair.store }
-        ensures first { result ≡ blame.after (last_below pair.byte
-            (λ a. not (blame.is_alike image.now entries.now (spec.violation_in flat.now self.now) pair.load pair.store pair.byte a))) }
-        ensures most { result ≤ pair.byte }
+    /// The first of its neighbours that met alike.
+    fn range_first(&self) -> u32
+        ensures first { result ≡ blame.after (last_below self.now.byte
+            (λ a. not (blame.is_alike self.now.scene.flat.now.image self.now.scene.entries.now
+            (spec.violation_in self.now.scene.flat.now self.now.violated) self.now.load self.now.store self.now.byte a))) }
+        ensures most { result ≤ self.now.byte }
     {
-        for i in 0..pair.byte {
-            let addr = pair.byte - 1 - i;
-            if !self.is_alike(image, flat, entries, behind, pair, addr) {
+        for i in 0..self.byte {
+            let addr = self.byte - 1 - i;
+            if !self.is_alike(addr) {
                 return addr + 1;
             }
         }
         0
     }
 
-    /// The first address above a blamed byte that is none of its neighbours that met alike.
-    fn range_end(
-        &self,
-        image: &Image,
-        flat: &Flat,
-        entries: &[Entry],
-        behind: &Behind,
-        pair: BlamedByte,
-    ) -> u32
-        requires known { IsBehind image.now.size entries.now behind.now }
-        requires blamed { pair.byte < image.now.size }
-        requires stored { blame.blamed_store image.now entries.now (spec.violation_in flat.now self.now) pair.byte ≡ Some pair.store }
-        ensures end { result ≡ unwrap_or (first_below image.now.size
-            (λ a. nat_lt pair.byte a && not (blame.is_alike image.now entries.now (spec.violation_in flat.now self.now) pair.load pair.store pair.byte a)))
-            image.now.size }
-        ensures above { pair.byte < result }
+    /// The first address above it that is none of its neighbours that met alike.
+    fn range_end(&self) -> u32
+        ensures end { result ≡ unwrap_or (first_below self.now.scene.flat.now.image.size
+            (λ a. nat_lt self.now.byte a && not (blame.is_alike self.now.scene.flat.now.image self.now.scene.entries.now
+            (spec.violation_in self.now.scene.flat.now self.now.violated) self.now.load self.now.store self.now.byte a)))
+            self.now.scene.flat.now.image.size }
+        ensures above { self.now.byte < result }
     {
-        let size = image.size();
-        for addr in pair.byte + 1..size {
-            if !self.is_alike(image, flat, entries, behind, pair, addr) {
+        let size = self.scene.flat.image().size();
+        for addr in self.byte + 1..size {
+            if !self.is_alike(addr) {
                 return addr;
             }
         }
         size
     }
 
-    /// The neighbours of a blamed byte that met at the same two accesses.
-    pub fn range(
-        &self,
-        image: &Image,
-        flat: &Flat,
-        entries: &[Entry],
-        behind: &Behind,
-        pair: BlamedByte,
-    ) -> ByteRange
-        requires known { IsBehind image.now.size entries.now behind.now }
-        requires blamed { pair.byte < image.now.size }
-        requires stored { blame.blamed_store image.now entries.now (spec.violation_in flat.now self.now) pair.byte ≡ Some pair.store }
-        ensures { result ≡ blame.blamed_range image.now entries.now (spec.violation_in flat.now self.now) pair.load pair.store pair.byte }
+    /// Its neighbours that met at the same two accesses, itself among them.
+    pub fn range(&self) -> ByteRange
+        ensures { result ≡ blame.blamed_range self.now.scene.flat.now.image self.now.scene.entries.now
+            (spec.violation_in self.now.scene.flat.now self.now.violated) self.now.load self.now.store self.now.byte }
     {
-        let first = self.range_first(image, flat, entries, behind, pair);
-        let end = self.range_end(image, flat, entries, behind, pair);
+        let first = self.range_first();
+        let end = self.range_end();
         ByteRange {
             first,
             length: end - first,

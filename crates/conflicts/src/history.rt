@@ -7,16 +7,16 @@ ghost use Rattle.spec_history.specs.Replay.{replay};
 ghost use Rattle.spec_history.specs.View.{IsAuditFault, cores_in, state_in};
 ghost use Rattle.spec_history.specs.Conflict as conflict;
 ghost use Rattle.spec_history.specs.Conflict.{entry_is};
-ghost use Rattle.conflicts.specs.Behind.{IsBehind, IsKnown};
+ghost use Rattle.conflicts.specs.Behind.{IsKnown};
 ghost use Rattle.conflicts.specs.Explained as spec;
 
-use crate::behind::Behind;
 use crate::blame::Violated;
 use crate::causes::{cause_of, core_at};
 use crate::explanation::{Blame, Explanation, Runner};
 use crate::known::Known;
 use crate::later::later_of;
 use crate::meeting::Parties;
+use crate::scene::Scene;
 use rv32_exec::Image;
 use spec_history::{Entry, Flat, Illegal, Kind, What};
 use std::alloc::{AllocError, Global};
@@ -43,8 +43,7 @@ pub fn explain(
     let mut explanations = Vec::new(alloc);
     let mut known = Known::new(alloc);
     for (place, entry) in entries.iter().enumerate() {
-        let Ok(found) = explanation_at(alloc, image, cores, &flat, entries, &mut known, place)
-        else {
+        let Ok(found) = explanation_at(alloc, cores, &flat, entries, &mut known, place) else {
             return Err((entries.len(), Illegal::NoMemory));
         };
         if let Err(illegal) = flat.apply(*entry) {
@@ -73,21 +72,19 @@ fn keep(explanations: &mut Vec<Explanation>, found: Option<Explanation>) -> Resu
 /// that asks it there, in order, so that what an attempt has behind it and ahead of it is looked for once. An Err: there was no memory for that.
 pub fn explanation_at(
     alloc: Global,
-    image: &Image,
     cores: u32,
     flat: &Flat,
     entries: &[Entry],
     known: &mut Known,
     place: usize,
 ) -> Result<Option<Explanation>, AllocError>
-    requires image { flat.now.image ≡ image.now }
     requires cores { cores_in flat.now ≡ cores }
     requires place { place < length entries.now }
-    requires known { IsKnown image.now.size entries.now known.old }
-    ensures explained { IfOk result (λ found. IfSome found (λ e. (e.place ≡ place) × spec.IsExplainedIn image.now (state_in flat.now) entries.now e)) }
-    ensures found { IfOk result (λ found. (entry : Entry) → slice_get entries.now place ≡ Some entry → refusal_of image.now cores (state_in flat.now) entry ≡ None
+    requires known { IsKnown flat.now.image.size entries.now known.old }
+    ensures explained { IfOk result (λ found. IfSome found (λ e. (e.place ≡ place) × spec.IsExplainedIn flat.now.image (state_in flat.now) entries.now e)) }
+    ensures found { IfOk result (λ found. (entry : Entry) → slice_get entries.now place ≡ Some entry → refusal_of flat.now.image cores (state_in flat.now) entry ≡ None
         → is_some found ≡ entry_is entries.now place (λ e. conflict.is_hurt e.what)) }
-    ensures known { IsKnown image.now.size entries.now known.new }
+    ensures known { IsKnown flat.now.image.size entries.now known.new }
 {
     let Entry { by, what } = entries[place];
     let What::Hurt(epoch) = what else {
@@ -105,12 +102,17 @@ pub fn explanation_at(
     let stop = next.now();
     let last = next.base();
     let cause = cause_of(entries, place, by);
+    let image = flat.image();
     known.behind.look(alloc, image, entries, by, place)?;
     known.behind.look(alloc, image, entries, victim, place)?;
-    let behind = &known.behind;
-    let (kind, blame) = conflict_of(image, flat, entries, behind, place, by, victim, cause);
+    let scene = Scene {
+        flat,
+        entries,
+        behind: &known.behind,
+    };
+    let (kind, blame) = conflict_of(&scene, place, by, victim, cause);
     let ahead = &mut known.ahead;
-    let later = later_of(alloc, image, flat, entries, ahead, by, victim, kind, cause)?;
+    let later = later_of(alloc, &scene, ahead, by, victim, kind, cause)?;
     Ok(Some(Explanation {
         place,
         causer: Runner {
@@ -132,24 +134,19 @@ pub fn explanation_at(
 
 /// What kind a violation of one core by another is, with this cause, and whom to blame.
 fn conflict_of(
-    image: &Image,
-    flat: &Flat,
-    entries: &[Entry],
-    behind: &Behind,
+    scene: &Scene<'_>,
     place: usize,
     causer: u32,
     victim: u32,
     cause: Option<usize>,
 ) -> (Kind, Option<Blame>)
-    requires image { flat.now.image ≡ image.now }
-    requires known { IsBehind image.now.size entries.now behind.now }
-    ensures kind { result.0 ≡ conflict.kind_of image.now (state_in flat.now) causer victim (conflict.what_at entries.now cause) }
-    ensures blame { result.1 ≡ spec.blame_by image.now (state_in flat.now) entries.now place causer victim result.0 cause (conflict.what_at entries.now cause) }
+    ensures kind { result.0 ≡ conflict.kind_of scene.now.flat.now.image (state_in scene.now.flat.now) causer victim (conflict.what_at scene.now.entries.now cause) }
+    ensures blame { result.1 ≡ spec.blame_by scene.now.flat.now.image (state_in scene.now.flat.now) scene.now.entries.now place causer victim result.0 cause (conflict.what_at scene.now.entries.now cause) }
 {
     let Some(cause) = cause else {
         return (Kind::Unexplained, None);
     };
-    let Some(entry) = entries.get(cause) else {
+    let Some(entry) = scene.entries.get(cause) else {
         return (Kind::Unexplained, None);
     };
     let parties = Parties {
@@ -157,12 +154,12 @@ fn conflict_of(
         cause: entry.what,
         victim,
     };
-    let kind = parties.kind(image, flat);
+    let kind = parties.kind(scene.flat);
     let violated = Violated {
         parties,
         kind,
         place,
         cause,
     };
-    (kind, violated.blame(image, flat, entries, behind))
+    (kind, violated.blame(scene))
 }

@@ -9,8 +9,8 @@ ghost use Rattle.conflicts.specs.Ahead.{AreAhead, IsAhead};
 ghost use Rattle.conflicts.specs.Later as spec;
 
 use crate::ahead::{Ahead, Stores};
-use rv32_exec::Image;
-use spec_history::{Entry, Flat, Kind};
+use crate::scene::Scene;
+use spec_history::{Flat, Kind};
 use std::alloc::{AllocError, Global};
 
 /// The place of the first of the stores after a place that is one to a byte that the victim has read; where the attempt ends, if there
@@ -48,23 +48,20 @@ fn sign_of(flat: &Flat, stores: &Stores, after: usize, victim: u32) -> Option<us
 /// The place of the store by which false sharing came true, after its cause.
 fn came_true_at(
     alloc: Global,
-    image: &Image,
-    flat: &Flat,
-    entries: &[Entry],
+    scene: &Scene<'_>,
     ahead: &mut Ahead,
     cause: usize,
     causer: u32,
     victim: u32,
 ) -> Result<Option<usize>, AllocError>
-    requires image { flat.now.image ≡ image.now }
-    requires within { cause < length entries.now }
-    requires known { IsAhead image.now.size entries.now ahead.old }
-    ensures came { IfOk result (λ place. place ≡ spec.came_true_at image.now.size entries.now cause causer (spec.was_read (state_in flat.now) victim)) }
-    ensures known { IsAhead image.now.size entries.now ahead.new }
+    requires within { cause < length scene.now.entries.now }
+    requires known { IsAhead scene.now.flat.now.image.size scene.now.entries.now ahead.old }
+    ensures came { IfOk result (λ place. place ≡ spec.came_true_at scene.now.flat.now.image.size scene.now.entries.now cause causer (spec.was_read (state_in scene.now.flat.now) victim)) }
+    ensures known { IsAhead scene.now.flat.now.image.size scene.now.entries.now ahead.new }
 {
-    ahead.look(alloc, image, entries, causer, cause)?;
+    ahead.look(alloc, scene.flat.image(), scene.entries, causer, cause)?;
     match ahead.found.get(&causer) {
-        Some(stores) => Ok(sign_of(flat, stores, cause, victim)),
+        Some(stores) => Ok(sign_of(scene.flat, stores, cause, victim)),
         None => Ok(None),
     }
 }
@@ -72,28 +69,23 @@ fn came_true_at(
 /// The place of the store by which a violation came true, if it is false sharing.
 pub(crate) fn later_of(
     alloc: Global,
-    image: &Image,
-    flat: &Flat,
-    entries: &[Entry],
+    scene: &Scene<'_>,
     ahead: &mut Ahead,
     causer: u32,
     victim: u32,
     kind: Kind,
     cause: Option<usize>,
 ) -> Result<Option<usize>, AllocError>
-    requires image { flat.now.image ≡ image.now }
-    requires within { IfSome cause (λ j. j < length entries.now) }
-    requires known { IsAhead image.now.size entries.now ahead.old }
-    ensures later { IfOk result (λ later. later ≡ spec.later_by image.now (state_in flat.now) entries.now causer victim kind cause) }
-    ensures known { IsAhead image.now.size entries.now ahead.new }
+    requires within { IfSome cause (λ j. j < length scene.now.entries.now) }
+    requires known { IsAhead scene.now.flat.now.image.size scene.now.entries.now ahead.old }
+    ensures later { IfOk result (λ later. later ≡ spec.later_by scene.now.flat.now.image (state_in scene.now.flat.now) scene.now.entries.now causer victim kind cause) }
+    ensures known { IsAhead scene.now.flat.now.image.size scene.now.entries.now ahead.new }
 {
     let Some(cause) = cause else {
         return Ok(None);
     };
     match kind {
-        Kind::FalseSharing => {
-            came_true_at(alloc, image, flat, entries, ahead, cause, causer, victim)
-        }
+        Kind::FalseSharing => { came_true_at(alloc, scene, ahead, cause, causer, victim) }
         Kind::TrueSharing | Kind::SilentStore | Kind::FullBuffer | Kind::Unexplained => Ok(None),
     }
 }

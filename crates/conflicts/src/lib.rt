@@ -16,7 +16,9 @@ mod known;
 mod later;
 pub mod laws;
 mod meeting;
+mod scene;
 mod standing;
+mod victim;
 
 pub use accesses::{attempt_number, attempt_place, begins, reads_outside};
 pub use addresses::{line_bytes, line_number};
@@ -29,5 +31,6 @@ pub use held::{accessed_bytes, accessed_line};
 pub use history::{explain, explanation_at};
 pub use known::Known;
 pub use meeting::{LineTest, Parties};
+pub use scene::Scene;
 pub use spec_history::Kind;
 pub use standing::{Site, site_of, sites};

@@ -9,7 +9,6 @@ ghost use Rattle.spec_history.specs.Conflict as conflict;
 ghost use Rattle.conflicts.specs.Parties as spec;
 
 use crate::addresses::{line_bytes, line_number, lines_of};
-use rv32_exec::Image;
 use spec_history::{Flat, Kind, What};
 
 /// Who meets in a violation: the core that makes it, what that core does next, and the core that is violated.
@@ -82,11 +81,13 @@ impl Parties {
 
     /// The cause changes the byte, and the victim has read it.
     pub fn is_changed(&self, flat: &Flat, addr: u32) -> bool
-        requires { addr < flat.now.image.size }
         ensures { result ≡ conflict.is_changed (spec.meeting_in flat.now self.now) addr }
     {
+        if flat.outside(self.victim, addr).is_none() {
+            return false;
+        }
         match (flat.committed(addr), self.written(flat, addr)) {
-            (Some(old), Some(new)) => new != old && flat.outside(self.victim, addr).is_some(),
+            (Some(old), Some(new)) => new != old,
             _ => false,
         }
     }
@@ -111,20 +112,19 @@ impl Parties {
     }
 
     /// The byte lies in the line, and passes the test of it.
-    fn is_of_line(&self, image: &Image, flat: &Flat, test: LineTest, line: u32, addr: u32) -> bool
-        ensures { result ≡ ((conflict.line_number image.now addr == line) && spec.is_of (spec.meeting_in flat.now self.now) test addr) }
+    fn is_of_line(&self, flat: &Flat, test: LineTest, line: u32, addr: u32) -> bool
+        ensures { result ≡ ((conflict.line_number flat.now.image addr == line) && spec.is_of (spec.meeting_in flat.now self.now) test addr) }
     {
-        line_number(image, addr) == line && self.is_of(flat, test, addr)
+        line_number(flat.image(), addr) == line && self.is_of(flat, test, addr)
     }
 
     /// Some byte of memory that lies in the line passes the test.
-    pub fn line_has(&self, image: &Image, flat: &Flat, test: LineTest, line: u32) -> bool
-        requires { line < conflict.line_count image.now }
-        ensures { result ≡ conflict.line_has image.now line (spec.is_of (spec.meeting_in flat.now self.now) test) }
+    pub fn line_has(&self, flat: &Flat, test: LineTest, line: u32) -> bool
+        ensures { result ≡ conflict.line_has flat.now.image line (spec.is_of (spec.meeting_in flat.now self.now) test) }
     {
-        let bytes = line_bytes(image, line);
+        let bytes = line_bytes(flat.image(), line);
         for addr in bytes.first..bytes.first + bytes.length {
-            if self.is_of_line(image, flat, test, line, addr) {
+            if self.is_of_line(flat, test, line, addr) {
                 return true;
             }
         }
@@ -132,13 +132,12 @@ impl Parties {
     }
 
     /// The lowest byte of the line that the cause writes.
-    pub fn written_in(&self, image: &Image, flat: &Flat, line: u32) -> Option<u32>
-        requires { line < conflict.line_count image.now }
-        ensures { result ≡ blame.written_in image.now (spec.meeting_in flat.now self.now) line }
+    pub fn written_in(&self, flat: &Flat, line: u32) -> Option<u32>
+        ensures { result ≡ blame.written_in flat.now.image (spec.meeting_in flat.now self.now) line }
     {
-        let bytes = line_bytes(image, line);
+        let bytes = line_bytes(flat.image(), line);
         for addr in bytes.first..bytes.first + bytes.length {
-            if self.is_of_line(image, flat, LineTest::Written, line, addr) {
+            if self.is_of_line(flat, LineTest::Written, line, addr) {
                 return Some(addr);
             }
         }
@@ -146,34 +145,30 @@ impl Parties {
     }
 
     /// The victim has read the byte, and the cause writes its line.
-    pub(crate) fn is_beside(&self, image: &Image, flat: &Flat, addr: u32) -> bool
-        requires { addr < image.now.size }
-        ensures { result ≡ conflict.is_beside image.now (spec.meeting_in flat.now self.now) addr }
+    pub(crate) fn is_beside(&self, flat: &Flat, addr: u32) -> bool
+        ensures { result ≡ conflict.is_beside flat.now.image (spec.meeting_in flat.now self.now) addr }
     {
         flat.outside(self.victim, addr).is_some()
-            && self.line_has(image, flat, LineTest::Written, line_number(image, addr))
+            && self.line_has(flat, LineTest::Written, line_number(flat.image(), addr))
     }
 
     /// The byte passes the test.
-    fn passes(&self, image: &Image, flat: &Flat, test: ByteTest, addr: u32) -> bool
-        requires image { flat.now.image ≡ image.now }
-        requires within { addr < image.now.size }
-        ensures { result ≡ spec.passes image.now (spec.meeting_in flat.now self.now) test addr }
+    fn passes(&self, flat: &Flat, test: ByteTest, addr: u32) -> bool
+        ensures { result ≡ spec.passes flat.now.image (spec.meeting_in flat.now self.now) test addr }
     {
         match test {
             ByteTest::Changed => self.is_changed(flat, addr),
             ByteTest::Shared => self.is_shared(flat, addr),
-            ByteTest::Beside => self.is_beside(image, flat, addr),
+            ByteTest::Beside => self.is_beside(flat, addr),
         }
     }
 
     /// Some byte of memory passes the test. One that does is among those that the victim has read, so no other is tried.
-    fn any(&self, image: &Image, flat: &Flat, test: ByteTest) -> bool
-        requires { flat.now.image ≡ image.now }
-        ensures { result ≡ any_below image.now.size (spec.passes image.now (spec.meeting_in flat.now self.now) test) }
+    fn any(&self, flat: &Flat, test: ByteTest) -> bool
+        ensures { result ≡ any_below flat.now.image.size (spec.passes flat.now.image (spec.meeting_in flat.now self.now) test) }
     {
         for addr in flat.read_addresses(self.victim) {
-            if self.passes(image, flat, test, *addr) {
+            if self.passes(flat, test, *addr) {
                 return true;
             }
         }
@@ -181,39 +176,29 @@ impl Parties {
     }
 
     /// It is another line, and the victim has stored in it.
-    fn holds_other(&self, image: &Image, flat: &Flat, line: u32, other: u32) -> bool
-        requires { other < conflict.line_count image.now }
-        ensures { result ≡ spec.holds_other image.now (spec.meeting_in flat.now self.now) line other }
+    fn holds_other(&self, flat: &Flat, line: u32, other: u32) -> bool
+        ensures { result ≡ spec.holds_other flat.now.image (spec.meeting_in flat.now self.now) line other }
     {
-        other != line && self.line_has(image, flat, LineTest::Stored, other)
+        other != line && self.line_has(flat, LineTest::Stored, other)
     }
 
     /// It is such a line, from `from` on and before `next`.
-    fn is_nearer(
-        &self,
-        image: &Image,
-        flat: &Flat,
-        line: u32,
-        from: u32,
-        next: u32,
-        other: u32,
-    ) -> bool
-        requires { other < conflict.line_count image.now }
-        ensures { result ≡ (nat_le from other && (nat_lt other next && spec.holds_other image.now (spec.meeting_in flat.now self.now) line other)) }
+    fn is_nearer(&self, flat: &Flat, line: u32, from: u32, next: u32, other: u32) -> bool
+        ensures { result ≡ (nat_le from other && (nat_lt other next && spec.holds_other flat.now.image (spec.meeting_in flat.now self.now) line other)) }
     {
-        from <= other && other < next && self.holds_other(image, flat, line, other)
+        from <= other && other < next && self.holds_other(flat, line, other)
     }
 
     /// The first other line from this one on in which the victim has stored; the number of lines, where there is none. One that
     /// has is among those of the bytes that it has stored, so no other is tried.
-    fn next_beside(&self, image: &Image, flat: &Flat, line: u32, from: u32) -> u32
-        requires { flat.now.image ≡ image.now }
-        ensures { IsNext (spec.holds_other image.now (spec.meeting_in flat.now self.now) line) from (conflict.line_count image.now) result }
+    fn next_beside(&self, flat: &Flat, line: u32, from: u32) -> u32
+        ensures { IsNext (spec.holds_other flat.now.image (spec.meeting_in flat.now self.now) line) from (conflict.line_count flat.now.image) result }
     {
+        let image = flat.image();
         let mut next = lines_of(image);
         for addr in flat.own_addresses(self.victim) {
             let other = line_number(image, *addr);
-            if self.is_nearer(image, flat, line, from, next, other) {
+            if self.is_nearer(flat, line, from, next, other) {
                 next = other;
             }
         }
@@ -221,15 +206,14 @@ impl Parties {
     }
 
     /// The victim has stored in so many other lines.
-    fn holds_beside(&self, image: &Image, flat: &Flat, line: u32, wanted: u32) -> bool
-        requires { flat.now.image ≡ image.now }
-        ensures { result ≡ nat_le wanted (count_below (conflict.line_count image.now)
-            (spec.holds_other image.now (spec.meeting_in flat.now self.now) line)) }
+    fn holds_beside(&self, flat: &Flat, line: u32, wanted: u32) -> bool
+        ensures { result ≡ nat_le wanted (count_below (conflict.line_count flat.now.image)
+            (spec.holds_other flat.now.image (spec.meeting_in flat.now self.now) line)) }
     {
-        let lines = lines_of(image);
+        let lines = lines_of(flat.image());
         let mut from = 0;
         for _ in 0..wanted {
-            let found = self.next_beside(image, flat, line, from);
+            let found = self.next_beside(flat, line, from);
             if found >= lines {
                 return false;
             }
@@ -239,40 +223,37 @@ impl Parties {
     }
 
     /// The victim has stored in the line, and in as many other lines as its buffer takes.
-    fn is_full_at(&self, image: &Image, flat: &Flat, line: u32) -> bool
-        requires image { flat.now.image ≡ image.now }
-        requires within { line < conflict.line_count image.now }
-        ensures { result ≡ conflict.is_full_at image.now (spec.meeting_in flat.now self.now) line }
+    fn is_full_at(&self, flat: &Flat, line: u32) -> bool
+        ensures { result ≡ conflict.is_full_at flat.now.image (spec.meeting_in flat.now self.now) line }
     {
-        self.line_has(image, flat, LineTest::Stored, line)
-            && self.holds_beside(image, flat, line, image.machine().buffer_lines)
+        self.line_has(flat, LineTest::Stored, line)
+            && self.holds_beside(flat, line, flat.image().machine().buffer_lines)
     }
 
     /// The cause is an access to a line for which the victim's full buffer has no place.
-    fn is_crowded(&self, image: &Image, flat: &Flat) -> bool
-        requires { flat.now.image ≡ image.now }
-        ensures { result ≡ conflict.is_crowded image.now (spec.meeting_in flat.now self.now) self.now.cause }
+    fn is_crowded(&self, flat: &Flat) -> bool
+        ensures { result ≡ conflict.is_crowded flat.now.image (spec.meeting_in flat.now self.now) self.now.cause }
     {
         match self.cause {
             What::Load { addr, .. } | What::Store { addr, .. } => {
-                addr < image.size() && self.is_full_at(image, flat, line_number(image, addr))
+                let image = flat.image();
+                addr < image.size() && self.is_full_at(flat, line_number(image, addr))
             }
             _ => false,
         }
     }
 
     /// What kind the violation is.
-    pub(crate) fn kind(&self, image: &Image, flat: &Flat) -> Kind
-        requires { flat.now.image ≡ image.now }
-        ensures { result ≡ conflict.kind_with image.now (spec.meeting_in flat.now self.now) self.now.cause }
+    pub(crate) fn kind(&self, flat: &Flat) -> Kind
+        ensures { result ≡ conflict.kind_with flat.now.image (spec.meeting_in flat.now self.now) self.now.cause }
     {
-        if self.any(image, flat, ByteTest::Changed) {
+        if self.any(flat, ByteTest::Changed) {
             Kind::TrueSharing
-        } else if self.any(image, flat, ByteTest::Shared) {
+        } else if self.any(flat, ByteTest::Shared) {
             Kind::SilentStore
-        } else if self.any(image, flat, ByteTest::Beside) {
+        } else if self.any(flat, ByteTest::Beside) {
             Kind::FalseSharing
-        } else if self.is_crowded(image, flat) {
+        } else if self.is_crowded(flat) {
             Kind::FullBuffer
         } else {
             Kind::Unexplained

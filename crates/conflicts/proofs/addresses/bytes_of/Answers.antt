@@ -3,7 +3,7 @@ use Rattle.rv32_image.specs.declared.apart.Apart.{Apart}
 use Rattle.rv32_image.specs.declared.machine.Machine.{Machine}
 use Rattle.rv32_image.specs.Image.{LoadedImage}
 use Rattle.conflicts.proofs.LineBytes.{all_among, bytes_inside, high_bytes, low_bytes, piece_before}
-use Rattle.conflicts.proofs.addresses.line_bytes.Goals as goal
+use Rattle.conflicts.proofs.addresses.bytes_of.Goals as goal
 
 lines_are : (image : LoadedImage) (machine : Machine) (size : ℕ) → machine ≡ image.machine → size ≡ image.size → size / machine.line_length ≡ image.size / image.machine.line_length
 lines_are image machine size same size_is = ap (λ n. n / machine.line_length) size_is ∙ ap (λ (m : Machine). image.size / m.line_length) same

@@ -1,9 +1,11 @@
-use Rattle.std.proofs.Common.{◌≡◌, ◌<◌, ◌∙◌, Result, Ok, Err, OnOk, All, false, length, sym, ap, subst, inl, arith}
+use Rattle.std.proofs.Common.{◌≡◌, ◌<◌, ◌∙◌, Result, Ok, Err, OnOk, All, IfSome, false, length, sym, ap, subst, inl, arith}
 use Rattle.std.specs.Result.{is_err}
 use Rattle.std.proofs.lemmas.Option.{slice_get-get_or}
+use Rattle.rv32_image.specs.Image.{LoadedImage}
 use Rattle.spec_history.specs.View.{state_in, cores_in}
 use Rattle.spec_history.proofs.Replay.Reaching.{no_entries, audited_more, audited_fault}
-use Rattle.conflicts.specs.Explained.{IsExplained, places_of}
+use Rattle.conflicts.specs.Behind.{IsKnown}
+use Rattle.conflicts.specs.Explained.{IsExplained, IsExplainedIn, places_of}
 use Rattle.conflicts.proofs.Explaining.{no_places, each_more, explained_more, legal_in}
 use Rattle.conflicts.proofs.history.explain.Goals as goal
 
@@ -15,7 +17,7 @@ loop-place-init c =
       replays = rw c.in-Ok.ensures.state (no_entries c.args.image.now c.args.cores);
       each = ap places_of empty ∙ no_places c.args.entries.now;
       explained = λ k d below. absurd (omega (arith, below, ap length empty));
-      known = c.new-known.ensures c.args.image.now.size c.args.entries.now;
+      known = c.new-known.ensures _ c.args.entries.now;
     }
 
 pub returns-in-Err-clause-legal : goal.returns-in-Err-clause-legal
@@ -37,14 +39,16 @@ loop-place-preserved c =
     let place = c.loop-place.place in
     let below : place < length entries = omega (arith, c.loop-place-test.true) in
     let found = c.in-Ok-explanation_at.ensures in
-    let legal = legal_in c.args.image.now c.loop-place.flat.image c.args.cores (cores_in c.loop-place.flat) (state_in c.loop-place.flat) _ was.image was.cores applied.legal in
+    let own = c.loop-place.flat.image in
+    let legal = legal_in own c.args.cores (cores_in c.loop-place.flat) (state_in c.loop-place.flat) _ was.cores applied.legal in
     let there = found.found _ (slice_get-get_or entries place _ below) legal in
+    let explained = subst (λ (i : LoadedImage). IfSome c.in-Ok-explanation_at.found (λ e. (e.place ≡ place) × IsExplainedIn i (state_in c.loop-place.flat) entries e)) was.image found.explained in
     let grown = kept c.keep.result _ (sym c.is_err.ensures.value ∙ c.if-is_err.false) c.keep.ensures in record {
       image = same.image ∙ was.image;
       cores = same.cores ∙ was.cores;
       replays = audited_more c.args.image.now c.args.cores entries place _ c.loop-place.flat c.apply.new.self was.image was.cores was.replays below applied;
-      each = ap places_of grown ∙ each_more c.args.image.now (state_in c.loop-place.flat) entries place c.loop-place.explanations.items c.in-Ok-explanation_at.found there found.explained was.each;
+      each = ap places_of grown ∙ each_more own (state_in c.loop-place.flat) entries place c.loop-place.explanations.items c.in-Ok-explanation_at.found there found.explained was.each;
       explained = subst (All (IsExplained c.args.image.now c.args.cores entries)) (sym grown)
-          (explained_more c.args.image.now c.args.cores (state_in c.loop-place.flat) entries place c.loop-place.explanations.items c.in-Ok-explanation_at.found was.replays found.explained was.explained);
-      known = found.known;
+          (explained_more c.args.image.now c.args.cores (state_in c.loop-place.flat) entries place c.loop-place.explanations.items c.in-Ok-explanation_at.found was.replays explained was.explained);
+      known = subst (λ (i : LoadedImage). IsKnown i.size entries c.explanation_at.new.known) (sym same.image) found.known;
     }

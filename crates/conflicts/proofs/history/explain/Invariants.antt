@@ -13,5 +13,5 @@ invariant-loop-place l = record {
   replays : replay l.image l.cores (take l.place l.entries) ≡ Some (state_in l.flat);
   each : places_of l.explanations.items ≡ violations_before l.entries l.place;
   explained : All (IsExplained l.image l.cores l.entries) l.explanations.items;
-  known : IsKnown l.image.size l.entries l.known;
+  known : IsKnown l.flat.image.size l.entries l.known;
 }

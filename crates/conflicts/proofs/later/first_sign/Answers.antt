@@ -24,14 +24,14 @@ loop-addr-preserved c =
     elim c.if-is_some.branch [
       | then-is_some w ↦
           let same : c.if-is_some.first ≡ min c.loop-addr.first w.next.result = cc in
-          let is : read (slice_index addresses index) ≡ true = ap is_some (sym c.outside.ensures) ∙ (sym c.is_some.ensures ∙ w.if-is_some.true) in record {
+          let is : read (slice_index addresses index) ≡ true = ap is_some (sym c.outside.ensures.byte) ∙ (sym c.is_some.ensures ∙ w.if-is_some.true) in record {
             most = omega (arith, same, was.most);
             soonest = λ entries core ahead past. subst (IsSoonest size entries core read addresses c.args.after end (index + 1)) (sym same)
                 (sooner size entries core read addresses c.args.after end index c.loop-addr.first w.next.result is within (w.next.ensures.next size entries core ahead past within)
                 (was.soonest entries core ahead past));
           }
       | else-is_some w ↦
-          let fails : read (slice_index addresses index) ≡ false = ap is_some (sym c.outside.ensures) ∙ (sym c.is_some.ensures ∙ w.if-is_some.false) in record {
+          let fails : read (slice_index addresses index) ≡ false = ap is_some (sym c.outside.ensures.byte) ∙ (sym c.is_some.ensures ∙ w.if-is_some.false) in record {
             most = omega (arith, w.first-is, was.most);
             soonest = λ entries core ahead past. subst (IsSoonest size entries core read addresses c.args.after end (index + 1)) (sym w.first-is)
                 (unread_next size entries core read addresses c.args.after end index c.loop-addr.first fails (was.soonest entries core ahead past));

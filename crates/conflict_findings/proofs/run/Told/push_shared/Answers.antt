@@ -15,7 +15,7 @@ use Rattle.conflict_findings.proofs.run.Told.push_shared.Goals.{then-addr-from+i
 
 pub loop-addr-init : goal.loop-addr-init
 loop-addr-init c =
-    let runs : ℕ → Option Run = shared_run c.args.image.now c.args.entries.now c.args.self.now.blame (violation_in c.args.flat.now c.args.self.now.violated) in
+    let runs : ℕ → Option Run = shared_run c.args.self.now.scene.flat.now.image c.args.self.now.scene.entries.now c.args.self.now.blame (violation_in c.args.self.now.scene.flat.now c.args.self.now.violated) in
     let items = c.args.runs.now.items in record {
       within = omega arith;
       told = sym (ap (λ (xs : List Run). items ++ xs) (none_below runs) ∙ append-nil items);
@@ -24,9 +24,9 @@ loop-addr-init c =
 
 pub loop-addr-preserved : goal.loop-addr-preserved
 loop-addr-preserved c =
-    let v = violation_in c.args.flat.now c.args.self.now.violated in
-    let m = meeting_in c.args.flat.now c.args.self.now.violated.parties in
-    let runs : ℕ → Option Run = shared_run c.args.image.now c.args.entries.now c.args.self.now.blame v in
+    let v = violation_in c.args.self.now.scene.flat.now c.args.self.now.violated in
+    let m = meeting_in c.args.self.now.scene.flat.now c.args.self.now.violated.parties in
+    let runs : ℕ → Option Run = shared_run c.args.self.now.scene.flat.now.image c.args.self.now.scene.entries.now c.args.self.now.blame v in
     let addresses = c.args.read.now in
     let index = c.loop-addr.addr-index in
     let found = slice_index addresses index in
@@ -40,7 +40,7 @@ loop-addr-preserved c =
           (λ shared.
           let at = shared_listed m addresses j c.requires.read.each shared in
           absurd (not_between addresses index from j at.0 c.requires.read.ordered inside was.passed after before at.1 at.2))
-          (λ isnt. unshared c.args.image.now c.args.entries.now c.args.self.now.blame v j isnt) in record {
+          (λ isnt. unshared c.args.self.now.scene.flat.now.image c.args.self.now.scene.entries.now c.args.self.now.blame v j isnt) in record {
             within = rw w.from-is next.1;
             told = rw (w.runs-is, w.from-is)
                 (told_past from found _ runs c.args.runs.now.items c.loop-addr.runs.items _ w.if-addr-from.true none was.told w.in_ok-from.ensures.told next.0 w.in_ok-from.ensures.none);
@@ -61,14 +61,14 @@ loop-addr-preserved c =
 
 pub returns : goal.returns
 returns c =
-    let v = violation_in c.args.flat.now c.args.self.now.violated in
-    let m = meeting_in c.args.flat.now c.args.self.now.violated.parties in
-    let runs : ℕ → Option Run = shared_run c.args.image.now c.args.entries.now c.args.self.now.blame v in
+    let v = violation_in c.args.self.now.scene.flat.now c.args.self.now.violated in
+    let m = meeting_in c.args.self.now.scene.flat.now c.args.self.now.violated.parties in
+    let runs : ℕ → Option Run = shared_run c.args.self.now.scene.flat.now.image c.args.self.now.scene.entries.now c.args.self.now.blame v in
     let was = c.loop-addr.invariant in
-    told_all c.loop-addr.from c.args.image.now.size runs c.args.runs.now.items c.loop-addr.runs.items was.within
+    told_all c.loop-addr.from c.args.self.now.scene.flat.now.image.size runs c.args.runs.now.items c.loop-addr.runs.items was.within
     (λ j after below. either_way (is_shared m j) (runs j ≡ None)
     (λ shared.
     let at = shared_listed m c.args.read.now j c.requires.read.each shared in
     let less = was.passed at.0 (omega (arith, at.1, c.loop-addr-test.false)) in
     absurd (omega (arith, less, at.2, after)))
-    (λ isnt. unshared c.args.image.now c.args.entries.now c.args.self.now.blame v j isnt)) was.told
+    (λ isnt. unshared c.args.self.now.scene.flat.now.image c.args.self.now.scene.entries.now c.args.self.now.blame v j isnt)) was.told

@@ -15,6 +15,9 @@ use Rattle.conflict_text.proofs.Gathering.{more_found}
 use Rattle.conflict_text.proofs.Telling.{kept_more}
 use Rattle.conflict_text.proofs.finding.Gathering.replay.Goals as goal
 
+pub explanation_at-requires-clause-known : goal.explanation_at-requires-clause-known
+explanation_at-requires-clause-known c = rw c.loop-place.invariant.image c.loop-place.invariant.known
+
 pub keep-requires-clause-summed : goal.keep-requires-clause-summed
 keep-requires-clause-summed c = (map (rollback_at c.args.sited.now.image.now c.args.sited.now.entries.now c.args.sited.now.sites.now) c.loop-place.invariant.found.found, c.loop-place.invariant.found.summed)
 
@@ -31,17 +34,19 @@ loop-place-preserved c =
     let below : place < length entries = omega (arith, c.loop-place-test.true) in
     let there = slice_get-get_or entries place _ below in
     let found = c.in_ok-explained.ensures in
-    let legal = legal_in image flat.image cores (cores_in flat) (state_in flat) _ was.image was.cores applied.legal in
-    let shown = found.found _ there legal in record {
+    let legal = legal_in flat.image cores (cores_in flat) (state_in flat) _ was.cores applied.legal in
+    let shown = found.found _ there legal in
+    let explained = rw was.image at found.explained in
+    let told = rw was.image at c.in_ok-keep.ensures.told in
+    let summed = rw was.image at c.in_ok-keep.ensures.summed in record {
       image = same.image ∙ was.image;
       cores = same.cores ∙ was.cores;
       replays = audited_more image cores entries place _ flat c.apply.new.self was.image was.cores was.replays below applied;
       marked = marked_in flat c.apply.new.self entries place _ there applied was.marked;
-      found = more_found image cores (state_in flat) entries c.args.sited.now.sites.now place c.in_ok-explained.explained _ _ _ _ was.replays shown found.explained was.found
-          c.in_ok-keep.ensures.told c.in_ok-keep.ensures.summed;
+      found = more_found image cores (state_in flat) entries c.args.sited.now.sites.now place c.in_ok-explained.explained _ _ _ _ was.replays shown explained was.found told summed;
       ended = kept_more c.args.all c.ended_by-found.result (ended_before image cores entries place) _ c.loop-place.self.ended.items _
           (ended_more image flat.image cores entries place (state_in flat) _ _ _ _ was.image was.replays there c.ended_by-found.ensures refl refl) was.ended c.in_ok-keep_ended.ensures;
-      known = found.known;
+      known = rw was.image at found.known;
       followed = record {
         is = c.in_ok-note.ensures.known;
         noted = let noted = c.in_ok-keep.ensures.noted ∙ was.followed.noted in c.in_ok-note.ensures.further (omega (arith, below, noted)) ∙ ap (λ n. n + 1) noted;

@@ -5,4 +5,4 @@ use Rattle.conflicts.proofs.meeting.Parties.holds_beside.Given as goal
 
 -- so many so far
 abbrev pub invariant-loop : goal.invariant-loop
-invariant-loop l = IsCounted (holds_other l.image (meeting_in l.flat l.self) l.line) (line_count l.image) l.from l.counter
+invariant-loop l = IsCounted (holds_other l.flat.image (meeting_in l.flat l.self) l.line) (line_count l.flat.image) l.from l.counter

@@ -5,4 +5,4 @@ use Rattle.conflicts.proofs.meeting.Parties.line_has.Given as goal
 
 -- none so far lies in the line and passes
 abbrev pub invariant-loop-addr : goal.invariant-loop-addr
-invariant-loop-addr l = (a : ℕ) → a < l.addr → ((line_number l.image a == l.line) && is_of (meeting_in l.flat l.self) l.test a) ≡ false
+invariant-loop-addr l = (a : ℕ) → a < l.addr → ((line_number l.flat.image a == l.line) && is_of (meeting_in l.flat l.self) l.test a) ≡ false

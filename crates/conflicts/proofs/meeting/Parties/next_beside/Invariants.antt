@@ -7,4 +7,4 @@ use Rattle.conflicts.proofs.meeting.Parties.next_beside.Given as goal
 -- the nearest so far
 abbrev pub invariant-loop-addr : goal.invariant-loop-addr
 invariant-loop-addr l =
-    Nearest (λ k. line_number l.image (slice_index l.addr-items k)) (holds_other l.image (meeting_in l.flat l.self) l.line) l.from (line_count l.image) l.addr-index l.next
+    Nearest (λ k. line_number l.flat.image (slice_index l.addr-items k)) (holds_other l.flat.image (meeting_in l.flat l.self) l.line) l.from (line_count l.flat.image) l.addr-index l.next

@@ -5,4 +5,4 @@ use Rattle.conflicts.proofs.meeting.Parties.written_in.Given as goal
 
 -- none so far lies in the line and is written
 abbrev pub invariant-loop-addr : goal.invariant-loop-addr
-invariant-loop-addr l = (a : ℕ) → a < l.addr → ((line_number l.image a == l.line) && is_some ((meeting_in l.flat l.self).writes a)) ≡ false
+invariant-loop-addr l = (a : ℕ) → a < l.addr → ((line_number l.flat.image a == l.line) && is_some ((meeting_in l.flat l.self).writes a)) ≡ false
