@@ -31,11 +31,32 @@ pub record RunsEpoch (r : Register) (v : StoreView) (core : ℕ) (now : Running)
   pub runs : running_at r.running.items core ≡ Some now
   pub unhurt : now.hurt ≡ false
 
--- so, and it hands in its next event, which is this stop; what comes of it can be noted
-pub record Arrives (r : Register) (v : StoreView) (shares : Counts) (core : ℕ) (now : Running) (arrived : Arrival) (at : Stop) : Type 0 where
+-- the loop isn't over, the core runs this or nothing, and a turn of it can be noted
+pub record MayBeginEpoch (r : Register) (v : StoreView) (shares : Counts) (core : ℕ) (running : Option Running) : Type 0 where
+  pub there : core < length r.running.items
+  pub fits : Fits r v
+  pub going : r.end ≡ None
+  pub notes : MayNote r shares
+  pub runs : running_at r.running.items core ≡ running
+
+-- the core runs an epoch, and hands in its next event, which is this stop; what comes of it can be noted, in two calls of the store
+pub record Arrives (r : Register) (v : StoreView) (budget : ℕ) (shares : Counts) (core : ℕ) (now : Running) (arrived : Arrival) (at : Stop) : Type 0 where
   pub running : RunsEpoch r v core now
   pub notes : MayNote r shares
   pub is_at : IsAtStop r core now arrived at
+  pub budget_left : 2 ≤ budget
+
+-- so does the homefree core
+pub record HomefreeArrives (r : Register) (v : StoreView) (budget : ℕ) (shares : Counts) (core : ℕ) (now : Running) (arrived : Arrival) (at : Stop) : Type 0 where
+  pub arrives : Arrives r v budget shares core now arrived at
+  pub homefree : now.epoch ≡ r.homefree
+
+-- the homefree core runs an epoch; its publish can be noted, in a call of the store
+pub record MayGoStraight (r : Register) (v : StoreView) (budget : ℕ) (core : ℕ) (now : Running) : Type 0 where
+  pub running : RunsEpoch r v core now
+  pub homefree : now.epoch ≡ r.homefree
+  pub room : vec_len r.history + length r.running.items ≤ vec_capacity r.history
+  pub budget_left : 1 ≤ budget
 
 -- the core runs, these others do too, and there is room for their entries and one more
 pub record MayHurt (r : Register) (core : ℕ) (now : Running) (hurt : ℕ → Bool) : Type 0 where

@@ -31,6 +31,7 @@ pub mod Fixed
 pub mod DriveFixed
 pub mod Noted
 pub mod Arms
+pub mod Takes
 pub mod Again
 pub mod Grown
 pub mod BookInside

@@ -1,9 +1,9 @@
 //! Epochs that have ended or faulted.
-ghost use Rattle.std.specs.Prelude.{List, Option, ◌∷◌, [], ◌++◌, ◌≡◌, ◌≢◌, ◌+◌, ◌≤◌, ℕ, true, false, length, vec_len, vec_capacity, Some};
+ghost use Rattle.std.specs.Prelude.{List, Option, ◌∷◌, [], ◌++◌, ◌≡◌, ◌≢◌, ◌+◌, ◌≤◌, ℕ, true, false, length, Some};
 ghost use Rattle.rv32_exec.specs.Sequential as spec;
 ghost use Rattle.homefree.specs.Came.{answer_of};
-ghost use Rattle.homefree.specs.Acted.{Acted};
-ghost use Rattle.homefree.specs.Arms.{Arrives, RunsEpoch, Settled, running_by};
+ghost use Rattle.homefree.specs.Takes.{Takes};
+ghost use Rattle.homefree.specs.Arms.{Arrives, HomefreeArrives, MayGoStraight, Settled, running_by};
 ghost use Rattle.homefree.specs.Turned as turn;
 ghost use Rattle.homefree.specs.declared.register.Running.{Running};
 ghost use Rattle.homefree.specs.Moves.{Moves, publish_calls, stop_calls, is_exit};
@@ -26,12 +26,9 @@ impl<S: EpochStore> Parts<S> {
         now: Attempt,
         arrived: &Arrived,
     ) -> Came
-        requires budget { 2 ≤ S.budget self.old.store }
-        requires arrives { Arrives self.old.register (S.view self.old.store) shares.old core (running_by now arrived.now.base) arrived.now arrived.now.at }
-        requires ended { arrived.now.at ≡ Stop.Ended }
-        ensures acted { Acted self.old.register self.new.register (S.waits self.old.store) (S.view self.old.store) (S.view self.new.store) shares.old shares.new core (Some arrived.entry.now) (answer_of self.new.register.running.items core result) }
-        ensures moves { Moves S.makes S.view (stop_calls self.old.register.image (S.waits self.old.store) self.old.register.homefree core (running_by now arrived.entry.now.base) arrived.entry.now.now Stop.Ended)
-            (is_exit self.old.register.image self.old.register.homefree (running_by now arrived.entry.now.base) arrived.entry.now.now Stop.Ended) (length self.old.register.running.items) core self.old.store self.new.store }
+        requires { Arrives self.old.register (S.view self.old.store) (S.budget self.old.store) shares.old core (running_by now arrived.now.base) arrived.now Stop.Ended }
+        ensures { Takes S.view S.waits self.old self.new shares.old shares.new core (Some arrived.entry.now) result (Moves S.makes S.view (stop_calls self.old.register.image (S.waits self.old.store) self.old.register.homefree core (running_by now arrived.entry.now.base) arrived.entry.now.now Stop.Ended)
+            (is_exit self.old.register.image self.old.register.homefree (running_by now arrived.entry.now.base) arrived.entry.now.now Stop.Ended) (length self.old.register.running.items) core) }
     {
         if now.epoch != self.register.homefree {
             return Came::Again(Cause::NotHomefree);
@@ -45,10 +42,7 @@ impl<S: EpochStore> Parts<S> {
 
     /// The homefree core publishes, unless it is straight, and notes whom that hurts.
     fn settle(&mut self, core: u32, now: Attempt, arrived: &Arrived)
-        requires budget { 1 ≤ S.budget self.old.store }
-        requires runs { RunsEpoch self.old.register (S.view self.old.store) core (running_by now arrived.now.base) }
-        requires room { vec_len self.old.register.history + length self.old.register.running.items ≤ vec_capacity self.old.register.history }
-        requires homefree { now.epoch ≡ self.old.register.homefree }
+        requires { MayGoStraight self.old.register (S.view self.old.store) (S.budget self.old.store) core (running_by now arrived.now.base) }
         ensures settled { Settled self.old.register self.new.register (S.view self.old.store) (S.view self.new.store) core (running_by now arrived.entry.now.base) }
         ensures moves { Leads S.makes (publish_calls now.straight core) self.old.store self.new.store }
         ensures budget { S.budget self.old.store ≤ S.budget self.new.store + 1 }
@@ -63,13 +57,9 @@ impl<S: EpochStore> Parts<S> {
 
     /// The homefree epoch commits, and is left.
     fn commit(&mut self, shares: &mut Shares, core: u32, now: Attempt, arrived: &Arrived) -> Came
-        requires budget { 2 ≤ S.budget self.old.store }
-        requires arrives { Arrives self.old.register (S.view self.old.store) shares.old core (running_by now arrived.now.base) arrived.now arrived.now.at }
-        requires ended { arrived.now.at ≡ Stop.Ended }
-        requires homefree { now.epoch ≡ self.old.register.homefree }
+        requires arrives { HomefreeArrives self.old.register (S.view self.old.store) (S.budget self.old.store) shares.old core (running_by now arrived.now.base) arrived.now Stop.Ended }
         requires stays { spec.exits self.old.register.image arrived.now.now ≡ false }
-        ensures acted { Acted self.old.register self.new.register (S.waits self.old.store) (S.view self.old.store) (S.view self.new.store) shares.old shares.new core (Some arrived.entry.now) (answer_of self.new.register.running.items core result) }
-        ensures moves { Leads S.makes (publish_calls now.straight core ++ call.Leave core ∷ []) self.old.store self.new.store }
+        ensures { Takes S.view S.waits self.old self.new shares.old shares.new core (Some arrived.entry.now) result (Leads S.makes (publish_calls now.straight core ++ call.Leave core ∷ [])) }
     {
         self.settle(core, now, arrived);
         self.register.commit(shares, core, now, arrived);
@@ -79,13 +69,9 @@ impl<S: EpochStore> Parts<S> {
 
     /// The homefree epoch exits the loop: all other cores are cancelled, and it commits.
     fn exit(&mut self, shares: &mut Shares, core: u32, now: Attempt, arrived: &Arrived) -> Came
-        requires budget { 2 ≤ S.budget self.old.store }
-        requires arrives { Arrives self.old.register (S.view self.old.store) shares.old core (running_by now arrived.now.base) arrived.now arrived.now.at }
-        requires ended { arrived.now.at ≡ Stop.Ended }
-        requires homefree { now.epoch ≡ self.old.register.homefree }
+        requires arrives { HomefreeArrives self.old.register (S.view self.old.store) (S.budget self.old.store) shares.old core (running_by now arrived.now.base) arrived.now Stop.Ended }
         requires exits { spec.exits self.old.register.image arrived.now.now ≡ true }
-        ensures acted { Acted self.old.register self.new.register (S.waits self.old.store) (S.view self.old.store) (S.view self.new.store) shares.old shares.new core (Some arrived.entry.now) (answer_of self.new.register.running.items core result) }
-        ensures moves { Moves S.makes S.view (publish_calls now.straight core) true (length self.old.register.running.items) core self.old.store self.new.store }
+        ensures { Takes S.view S.waits self.old self.new shares.old shares.new core (Some arrived.entry.now) result (Moves S.makes S.view (publish_calls now.straight core) true (length self.old.register.running.items) core) }
     {
         self.settle(core, now, arrived);
         cancel_attempts(&mut self.store, &self.register.running, core);
@@ -105,11 +91,8 @@ impl<S: EpochStore> Parts<S> {
         cause: u32,
         pc: u32,
     ) -> Came
-        requires budget { 2 ≤ S.budget self.old.store }
-        requires arrives { Arrives self.old.register (S.view self.old.store) shares.old core (running_by now arrived.now.base) arrived.now arrived.now.at }
-        requires faulted { arrived.now.at ≡ Stop.Fault cause pc }
-        ensures acted { Acted self.old.register self.new.register (S.waits self.old.store) (S.view self.old.store) (S.view self.new.store) shares.old shares.new core (Some arrived.entry.now) (answer_of self.new.register.running.items core result) }
-        ensures moves { Leads S.makes (stop_calls self.old.register.image (S.waits self.old.store) self.old.register.homefree core (running_by now arrived.entry.now.base) arrived.entry.now.now (Stop.Fault cause pc)) self.old.store self.new.store }
+        requires { Arrives self.old.register (S.view self.old.store) (S.budget self.old.store) shares.old core (running_by now arrived.now.base) arrived.now (Stop.Fault cause pc) }
+        ensures { Takes S.view S.waits self.old self.new shares.old shares.new core (Some arrived.entry.now) result (Leads S.makes (stop_calls self.old.register.image (S.waits self.old.store) self.old.register.homefree core (running_by now arrived.entry.now.base) arrived.entry.now.now (Stop.Fault cause pc))) }
     {
         let _ = shares;
         let epoch = now.epoch;

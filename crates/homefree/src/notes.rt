@@ -8,14 +8,14 @@ ghost use Rattle.homefree.specs.Kept.{running_at};
 ghost use Rattle.homefree.specs.Came.{answer_of};
 ghost use Rattle.homefree.specs.Arms.{MayHurt, running_by};
 ghost use Rattle.homefree.specs.AtStop.{IsAtStop};
-ghost use Rattle.homefree.specs.Noted.{hurts_noted};
+ghost use Rattle.homefree.specs.Noted.{MayNoteOne, SetsRunning, hurts_noted};
 ghost use Rattle.violations.specs.CoreSet.{is_in};
 ghost use Rattle.homefree.specs.Steps.{Steps};
 ghost use Rattle.spec_history.specs.FlatState as flat;
 ghost use Rattle.homefree.specs.Hurts as spec;
 
 use crate::answer::{Answer, Came};
-use crate::register::{Register, Running};
+use crate::register::{Access, Register, Running};
 use run_ledger::{Shares, count_commit, count_load, count_restart, count_store};
 use rv32_exec::{Arrived, End, Hart, Image, Stop, start};
 use spec_history::{Entry, What};
@@ -37,8 +37,7 @@ pub(crate) fn note(history: &mut Vec<Entry>, by: u32, what: What)
 /// Sets what a core runs.
 pub(crate) fn set_running(running: &mut Vec<Option<Running>>, core: u32, now: Option<Running>)
     requires { core < length running.old.items }
-    ensures len { length running.new.items ≡ length running.old.items }
-    ensures each { (k : ℕ) → running_at running.new.items k ≡ (if k == core then now else running_at running.old.items k) }
+    ensures { SetsRunning running.old.items running.new.items core now }
 {
     running[core as usize] = now;
 }
@@ -50,11 +49,9 @@ pub(crate) fn set_loaded(
     arrived: &Arrived,
     value: u32,
 )
-    requires core { core < length running.old.items }
     requires runs { IsSome (running_at running.old.items core) }
     requires value { IsAtLoad arrived.now.at value }
-    ensures len { length running.new.items ≡ length running.old.items }
-    ensures each { (now : Running) → running_at running.old.items core ≡ Some now → (k : ℕ) → running_at running.new.items k ≡ (if k == core then Some (record now { hart = after_loading arrived.entry.now value }) else running_at running.old.items k) }
+    ensures { (now : Running) → running_at running.old.items core ≡ Some now → SetsRunning running.old.items running.new.items core (Some (record now { hart = after_loading arrived.entry.now value })) }
 {
     match &mut running[core as usize] {
         Some(now) => arrived.set_loaded(value, &mut now.hart),
@@ -64,11 +61,9 @@ pub(crate) fn set_loaded(
 
 /// Sets the hart of a core that runs an epoch to that after the store at which it stopped.
 pub(crate) fn set_stored(running: &mut Vec<Option<Running>>, core: u32, arrived: &Arrived)
-    requires core { core < length running.old.items }
     requires runs { IsSome (running_at running.old.items core) }
     requires at { IsAtStore arrived.now.at }
-    ensures len { length running.new.items ≡ length running.old.items }
-    ensures each { (now : Running) → running_at running.old.items core ≡ Some now → (k : ℕ) → running_at running.new.items k ≡ (if k == core then Some (record now { hart = stepped arrived.entry.now.now }) else running_at running.old.items k) }
+    ensures { (now : Running) → running_at running.old.items core ≡ Some now → SetsRunning running.old.items running.new.items core (Some (record now { hart = stepped arrived.entry.now.now })) }
 {
     match &mut running[core as usize] {
         Some(now) => arrived.set_stored(&mut now.hart),
@@ -76,27 +71,22 @@ pub(crate) fn set_stored(running: &mut Vec<Option<Running>>, core: u32, arrived:
     }
 }
 
-/// Sets a core that runs an epoch straight.
+/// Sets a core straight, where it runs an epoch.
 fn set_straight(running: &mut Vec<Option<Running>>, core: u32)
-    requires core { core < length running.old.items }
-    requires runs { IsSome (running_at running.old.items core) }
-    ensures len { length running.new.items ≡ length running.old.items }
-    ensures each { (now : Running) → running_at running.old.items core ≡ Some now → (k : ℕ) → running_at running.new.items k ≡ (if k == core then Some (record now { straight = true }) else running_at running.old.items k) }
+    requires { core < length running.old.items }
+    ensures { (now : Running) → running_at running.old.items core ≡ Some now → SetsRunning running.old.items running.new.items core (Some (record now { straight = true })) }
 {
-    match &mut running[core as usize] {
-        Some(now) => now.straight = true,
-        None => unreachable!(),
+    if let Some(now) = &mut running[core as usize] {
+        now.straight = true;
     }
 }
 
 impl Register {
     /// An idle core starts the next epoch.
     pub(crate) fn start(&mut self, core: u32)
-        requires core { core < length self.old.running.items }
-        requires room { vec_len self.old.history < vec_capacity self.old.history }
+        requires may { MayNoteOne self.old core None }
         requires image { IsImage self.old.image }
         requires left { self.old.next_epoch < self.old.image.epochs }
-        requires idle { running_at self.old.running.items core ≡ None }
         ensures hart { answer_of self.new.running.items core Came.Goes ≡ Answer.Go (start_of self.old.image self.old.next_epoch) }
         ensures steps { (shares : Counts) → Steps self.old self.new shares shares (spec.entry core (What.Start self.old.next_epoch)) }
     {
@@ -115,11 +105,9 @@ impl Register {
 
     /// A core that was hurt begins its epoch again.
     pub(crate) fn restart(&mut self, shares: &mut Shares, core: u32, epoch: u32)
-        requires core { core < length self.old.running.items }
-        requires room { vec_len self.old.history < vec_capacity self.old.history }
+        requires may { (now : Running) × MayNoteOne self.old core (Some now) × (now.epoch ≡ epoch) }
         requires totals { self.old.totals.restarts < 2 ^ 63 }
         requires shares { shares.old.restarts < 2 ^ 63 }
-        requires runs { (now : Running) × (running_at self.old.running.items core ≡ Some now) × (now.epoch ≡ epoch) }
         ensures hart { answer_of self.new.running.items core Came.Goes ≡ Answer.Go (start_of self.old.image epoch) }
         ensures steps { Steps self.old self.new shares.old shares.new (spec.entry core What.Restart) }
     {
@@ -142,19 +130,18 @@ impl Register {
         core: u32,
         now: Attempt,
         arrived: &Arrived,
-        addr: u32,
-        width: u32,
-        value: u32,
+        access: Access,
         hurt: CoreSet,
     )
         requires may { MayHurt self.old core (running_by now arrived.now.base) (is_in hurt) }
         requires totals { self.old.totals.loads < 2 ^ 63 }
         requires shares { shares.old.loads < 2 ^ 63 }
         requires at { IsAtStop self.old core (running_by now arrived.now.base) arrived.now arrived.now.at }
-        requires value { IsAtLoad arrived.now.at value }
-        ensures hart { answer_of self.new.running.items core Came.Goes ≡ Answer.Go (after_loading arrived.entry.now value) }
-        ensures steps { Steps self.old self.new shares.old shares.new (hurts_noted core (is_in hurt) self.old.running.items (length self.old.running.items) ++ spec.entry core (What.Load addr width value)) }
+        requires value { IsAtLoad arrived.now.at access.value }
+        ensures hart { answer_of self.new.running.items core Came.Goes ≡ Answer.Go (after_loading arrived.entry.now access.value) }
+        ensures steps { Steps self.old self.new shares.old shares.new (hurts_noted core (is_in hurt) self.old.running.items (length self.old.running.items) ++ spec.entry core (What.Load access.addr access.width access.value)) }
     {
+        let Access { addr, width, value } = access;
         self.hurt_all(core, hurt);
         note(&mut self.history, core, What::Load { addr, width, value });
         count_load(&mut self.totals, shares);
@@ -168,18 +155,17 @@ impl Register {
         core: u32,
         now: Attempt,
         arrived: &Arrived,
-        addr: u32,
-        width: u32,
-        value: u32,
+        access: Access,
         hurt: CoreSet,
     )
         requires may { MayHurt self.old core (running_by now arrived.now.base) (is_in hurt) }
         requires totals { self.old.totals.stores < 2 ^ 63 }
         requires shares { shares.old.stores < 2 ^ 63 }
-        requires at { IsAtStop self.old core (running_by now arrived.now.base) arrived.now (Stop.Store addr width value) }
+        requires at { IsAtStop self.old core (running_by now arrived.now.base) arrived.now (Stop.Store access.addr access.width access.value) }
         ensures hart { answer_of self.new.running.items core Came.Goes ≡ Answer.Go (stepped arrived.entry.now.now) }
-        ensures steps { Steps self.old self.new shares.old shares.new (hurts_noted core (is_in hurt) self.old.running.items (length self.old.running.items) ++ spec.entry core (What.Store addr width value)) }
+        ensures steps { Steps self.old self.new shares.old shares.new (hurts_noted core (is_in hurt) self.old.running.items (length self.old.running.items) ++ spec.entry core (What.Store access.addr access.width access.value)) }
     {
+        let Access { addr, width, value } = access;
         self.hurt_all(core, hurt);
         note(&mut self.history, core, What::Store { addr, width, value });
         count_store(&mut self.totals, shares);
@@ -200,8 +186,7 @@ impl Register {
     /// The homefree core's epoch has ended, and commits: the core is idle, and the next epoch is homefree. Where the epoch
     /// exits, or was the last, the loop is over.
     pub(crate) fn commit(&mut self, shares: &mut Shares, core: u32, now: Attempt, arrived: &Arrived)
-        requires core { core < length self.old.running.items }
-        requires room { vec_len self.old.history < vec_capacity self.old.history }
+        requires may { MayNoteOne self.old core (Some (running_by now arrived.now.base)) }
         requires totals { self.old.totals.commits < 2 ^ 63 }
         requires shares { shares.old.commits < 2 ^ 63 }
         requires homefree { self.old.homefree < 2 ^ 16 }
@@ -218,8 +203,7 @@ impl Register {
 
     /// The homefree core's epoch has faulted: the loop is over.
     pub(crate) fn fault(&mut self, core: u32, now: Attempt, arrived: &Arrived, cause: u32, pc: u32)
-        requires room { vec_len self.old.history < vec_capacity self.old.history }
-        requires runs { running_at self.old.running.items core ≡ Some (running_by now arrived.now.base) }
+        requires { MayNoteOne self.old core (Some (running_by now arrived.now.base)) }
         ensures steps { (shares : Counts) → Steps self.old self.new shares shares (spec.entry core (What.Fault cause pc)) }
         ensures end { self.new.end ≡ Some (End.Fault now.epoch cause pc) }
     {
@@ -234,9 +218,7 @@ impl Register {
 
     /// The core's turn hurts another one.
     pub(crate) fn hurt(&mut self, by: u32, core: u32, now: Running)
-        requires core { core < length self.old.running.items }
-        requires room { vec_len self.old.history < vec_capacity self.old.history }
-        requires runs { running_at self.old.running.items core ≡ Some now }
+        requires { MayNoteOne self.old core (Some now) }
         ensures steps { (shares : Counts) → Steps self.old self.new shares shares (spec.entry by (What.Hurt now.epoch)) }
         ensures running { (k : ℕ) → running_at self.new.running.items k ≡ (if k == core then Some (record now { hurt = true }) else running_at self.old.running.items k) }
     {
@@ -246,9 +228,7 @@ impl Register {
 
     /// The core's turn cancels another one, which is idle then.
     pub(crate) fn cancel(&mut self, by: u32, core: u32, now: Running)
-        requires core { core < length self.old.running.items }
-        requires room { vec_len self.old.history < vec_capacity self.old.history }
-        requires runs { running_at self.old.running.items core ≡ Some now }
+        requires { MayNoteOne self.old core (Some now) }
         ensures steps { (shares : Counts) → Steps self.old self.new shares shares (spec.entry by (What.Cancel now.epoch)) }
         ensures running { (k : ℕ) → running_at self.new.running.items k ≡ (if k == core then None else running_at self.old.running.items k) }
     {

@@ -3,15 +3,16 @@ ghost use Rattle.std.specs.Prelude.{◌≡◌, ◌∷◌, [], ◌<◌, ◌≤◌
 ghost use Rattle.homefree.specs.Came.{answer_of};
 ghost use Rattle.rv32_exec.specs.NextEvent.{next_event};
 ghost use Rattle.homefree.specs.Acted.{Acted, MayNote, IfArrived};
-ghost use Rattle.homefree.specs.Arms.{Arrives, running_by};
+ghost use Rattle.homefree.specs.Arms.{Arrives, MayBeginEpoch, running_by};
 ghost use Rattle.homefree.specs.Kept.{Fits, running_at};
 ghost use Rattle.homefree.specs.Moves.{HasToWait, Moves, TurnMoves, stop_calls, is_exit, start_calls};
 ghost use Rattle.homefree.specs.Standing.{standing};
+ghost use Rattle.homefree.specs.Takes.{Takes};
 ghost use Rattle.violations.specs.Calls.{Leads};
 ghost use Rattle.violations.specs.Calls as call;
 
 use crate::answer::{Came, Cause};
-use crate::register::{Register, Running};
+use crate::register::{Access, Register, Running};
 use run_ledger::Shares;
 use rv32_exec::{Arrived, Stop};
 use violations::{Attempt, EpochStore};
@@ -64,11 +65,9 @@ impl<S: EpochStore> Parts<S> {
 
     /// A core that runs its epoch hands in its next event.
     fn run(&mut self, shares: &mut Shares, core: u32, now: Attempt, arrived: &Arrived) -> Came
-        requires budget { 2 ≤ S.budget self.old.store }
-        requires arrives { Arrives self.old.register (S.view self.old.store) shares.old core (running_by now arrived.now.base) arrived.now arrived.now.at }
-        ensures acted { Acted self.old.register self.new.register (S.waits self.old.store) (S.view self.old.store) (S.view self.new.store) shares.old shares.new core (Some arrived.entry.now) (answer_of self.new.register.running.items core result) }
-        ensures moves { Moves S.makes S.view (stop_calls self.old.register.image (S.waits self.old.store) self.old.register.homefree core (running_by now arrived.entry.now.base) arrived.entry.now.now arrived.entry.now.at)
-            (is_exit self.old.register.image self.old.register.homefree (running_by now arrived.entry.now.base) arrived.entry.now.now arrived.entry.now.at) (length self.old.register.running.items) core self.old.store self.new.store }
+        requires { Arrives self.old.register (S.view self.old.store) (S.budget self.old.store) shares.old core (running_by now arrived.now.base) arrived.now arrived.now.at }
+        ensures takes { Takes S.view S.waits self.old self.new shares.old shares.new core (Some arrived.entry.now) result (Moves S.makes S.view (stop_calls self.old.register.image (S.waits self.old.store) self.old.register.homefree core (running_by now arrived.entry.now.base) arrived.entry.now.now arrived.entry.now.at)
+            (is_exit self.old.register.image self.old.register.homefree (running_by now arrived.entry.now.base) arrived.entry.now.now arrived.entry.now.at) (length self.old.register.running.items) core) }
         ensures still { HasToWait (S.waits self.old.store) self.old.register.homefree core (running_by now arrived.entry.now.base) arrived.entry.now.at → self.new.store ≡ self.old.store }
     {
         let at = arrived.at();
@@ -86,10 +85,11 @@ impl<S: EpochStore> Parts<S> {
                 }
             }
             Stop::Store { addr, width, value } => {
+                let access = Access { addr, width, value };
                 if now.straight {
-                    self.straight_store(shares, core, now, arrived, addr, width, value)
+                    self.straight_store(shares, core, now, arrived, access)
                 } else {
-                    self.store(shares, core, now, arrived, addr, width, value)
+                    self.store(shares, core, now, arrived, access)
                 }
             }
             Stop::Ended => self.finish(shares, core, now, arrived),
@@ -99,14 +99,9 @@ impl<S: EpochStore> Parts<S> {
 
     /// An idle core begins the next epoch, if one is left.
     pub(crate) fn start(&mut self, shares: &mut Shares, core: u32, next: Option<&Arrived>) -> Came
-        requires core { core < length self.old.register.running.items }
         requires budget { 1 ≤ S.budget self.old.store }
-        requires notes { MayNote self.old.register shares.old }
-        requires fits { Fits self.old.register (S.view self.old.store) }
-        requires going { self.old.register.end ≡ None }
-        requires idle { running_at self.old.register.running.items core ≡ None }
-        ensures acted { Acted self.old.register self.new.register (S.waits self.old.store) (S.view self.old.store) (S.view self.new.store) shares.old shares.new core (option_copied next.entry) (answer_of self.new.register.running.items core result) }
-        ensures moves { Leads S.makes (start_calls self.old.register.image.epochs self.old.register.next_epoch core) self.old.store self.new.store }
+        requires may { MayBeginEpoch self.old.register (S.view self.old.store) shares.old core None }
+        ensures { Takes S.view S.waits self.old self.new shares.old shares.new core (option_copied next.entry) result (Leads S.makes (start_calls self.old.register.image.epochs self.old.register.next_epoch core)) }
     {
         let _ = shares;
         let _ = next;
@@ -128,15 +123,10 @@ impl<S: EpochStore> Parts<S> {
         now: &Running,
         next: Option<&Arrived>,
     ) -> Came
-        requires core { core < length self.old.register.running.items }
         requires budget { 1 ≤ S.budget self.old.store }
-        requires notes { MayNote self.old.register shares.old }
-        requires fits { Fits self.old.register (S.view self.old.store) }
-        requires going { self.old.register.end ≡ None }
-        requires runs { running_at self.old.register.running.items core ≡ Some now.now }
+        requires may { MayBeginEpoch self.old.register (S.view self.old.store) shares.old core (Some now.now) }
         requires hurt { now.now.hurt ≡ true }
-        ensures acted { Acted self.old.register self.new.register (S.waits self.old.store) (S.view self.old.store) (S.view self.new.store) shares.old shares.new core (option_copied next.entry) (answer_of self.new.register.running.items core result) }
-        ensures moves { Leads S.makes (call.Begin core now.entry.now.epoch ∷ []) self.old.store self.new.store }
+        ensures { Takes S.view S.waits self.old self.new shares.old shares.new core (option_copied next.entry) result (Leads S.makes (call.Begin core now.entry.now.epoch ∷ [])) }
     {
         let _ = next;
         self.store.look();

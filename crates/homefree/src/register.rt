@@ -31,6 +31,17 @@ impl Running {
     }
 }
 
+/// An access of memory.
+#[derive(Clone, Copy)]
+pub(crate) struct Access {
+    /// Its first byte.
+    pub addr: u32,
+    /// How many bytes it has.
+    pub width: u32,
+    /// What was loaded, or is stored.
+    pub value: u32,
+}
+
 /// The history, and where it has led, the store aside.
 #[derive(Drop)]
 pub(crate) struct Register {

@@ -1,7 +1,6 @@
 //! Accesses of a core that isn't straight.
-ghost use Rattle.std.specs.Prelude.{◌≡◌, ◌≢◌, ◌==◌, ◌&&◌, ◌≤◌, ℕ, Bool, false, is_some, Some, IsSome};
-ghost use Rattle.homefree.specs.Came.{answer_of};
-ghost use Rattle.homefree.specs.Acted.{Acted};
+ghost use Rattle.std.specs.Prelude.{◌≡◌, ◌≢◌, ◌==◌, ◌&&◌, ℕ, Bool, false, is_some, Some, IsSome};
+ghost use Rattle.homefree.specs.Takes.{Takes};
 ghost use Rattle.homefree.specs.Arms.{Arrives, running_by};
 ghost use Rattle.homefree.specs.Turned as turn;
 ghost use Rattle.homefree.specs.Moves.{access_calls};
@@ -10,6 +9,7 @@ ghost use Rattle.violations.specs.Calls as call;
 
 use crate::answer::{Came, Cause};
 use crate::parts::Parts;
+use crate::register::Access;
 use run_ledger::Shares;
 use rv32_exec::{Arrived, Stop};
 use violations::{Attempt, EpochStore, Step, WaitCause};
@@ -25,18 +25,15 @@ impl<S: EpochStore> Parts<S> {
         addr: u32,
         width: u32,
     ) -> Came
-        requires budget { 2 ≤ S.budget self.old.store }
-        requires arrives { Arrives self.old.register (S.view self.old.store) shares.old core (running_by now arrived.now.base) arrived.now arrived.now.at }
+        requires arrives { (signed : Bool) × (rd : ℕ) × Arrives self.old.register (S.view self.old.store) (S.budget self.old.store) shares.old core (running_by now arrived.now.base) arrived.now (Stop.Load addr width signed rd) }
         requires speculates { now.straight ≡ false }
-        requires load { (signed : Bool) × (rd : ℕ) × (arrived.now.at ≡ Stop.Load addr width signed rd) }
-        ensures acted { Acted self.old.register self.new.register (S.waits self.old.store) (S.view self.old.store) (S.view self.new.store) shares.old shares.new core (Some arrived.entry.now) (answer_of self.new.register.running.items core result) }
+        ensures takes { Takes S.view S.waits self.old self.new shares.old shares.new core (Some arrived.entry.now) result (Leads S.makes (access_calls false (is_some ((S.waits self.old.store).load core addr width) && (now.epoch == self.old.register.homefree)) core (call.Load core addr width) (call.StraightLoad core addr width))) }
         ensures still { now.epoch ≢ self.old.register.homefree → IsSome ((S.waits self.old.store).load core addr width) → self.new.store ≡ self.old.store }
-        ensures moves { Leads S.makes (access_calls false (is_some ((S.waits self.old.store).load core addr width) && (now.epoch == self.old.register.homefree)) core (call.Load core addr width) (call.StraightLoad core addr width)) self.old.store self.new.store }
     {
         match self.store.load(core, addr, width) {
             Step::Done { value, hurt } => {
-                self.register
-                    .load(shares, core, now, arrived, addr, width, value, hurt);
+                let access = Access { addr, width, value };
+                self.register.load(shares, core, now, arrived, access, hurt);
                 Came::Goes
             }
             Step::Wait(cause) => {
@@ -56,27 +53,23 @@ impl<S: EpochStore> Parts<S> {
         core: u32,
         now: Attempt,
         arrived: &Arrived,
-        addr: u32,
-        width: u32,
-        value: u32,
+        access: Access,
     ) -> Came
-        requires budget { 2 ≤ S.budget self.old.store }
-        requires arrives { Arrives self.old.register (S.view self.old.store) shares.old core (running_by now arrived.now.base) arrived.now arrived.now.at }
+        requires arrives { Arrives self.old.register (S.view self.old.store) (S.budget self.old.store) shares.old core (running_by now arrived.now.base) arrived.now (Stop.Store access.addr access.width access.value) }
         requires speculates { now.straight ≡ false }
-        requires store { arrived.now.at ≡ Stop.Store addr width value }
-        ensures acted { Acted self.old.register self.new.register (S.waits self.old.store) (S.view self.old.store) (S.view self.new.store) shares.old shares.new core (Some arrived.entry.now) (answer_of self.new.register.running.items core result) }
-        ensures still { now.epoch ≢ self.old.register.homefree → IsSome ((S.waits self.old.store).store core addr width) → self.new.store ≡ self.old.store }
-        ensures moves { Leads S.makes (access_calls false (is_some ((S.waits self.old.store).store core addr width) && (now.epoch == self.old.register.homefree)) core (call.Store core addr width value) (call.StraightStore core addr width value)) self.old.store self.new.store }
+        ensures takes { Takes S.view S.waits self.old self.new shares.old shares.new core (Some arrived.entry.now) result (Leads S.makes (access_calls false (is_some ((S.waits self.old.store).store core access.addr access.width) && (now.epoch == self.old.register.homefree)) core (call.Store core access.addr access.width access.value) (call.StraightStore core access.addr access.width access.value))) }
+        ensures still { now.epoch ≢ self.old.register.homefree → IsSome ((S.waits self.old.store).store core access.addr access.width) → self.new.store ≡ self.old.store }
     {
+        let Access { addr, width, value } = access;
         match self.store.store(core, addr, width, value) {
             Step::Done { value: _, hurt } => {
                 self.register
-                    .store(shares, core, now, arrived, addr, width, value, hurt);
+                    .store(shares, core, now, arrived, access, hurt);
                 Came::Goes
             }
             Step::Wait(cause) => {
                 if now.epoch == self.register.homefree {
-                    self.straight_store(shares, core, now, arrived, addr, width, value)
+                    self.straight_store(shares, core, now, arrived, access)
                 } else {
                     Came::Again(cause_of(cause))
                 }

@@ -1,14 +1,14 @@
 //! Accesses of the homefree core once it has published.
-ghost use Rattle.std.specs.Prelude.{◌≡◌, ◌∷◌, [], ◌++◌, ◌+◌, ◌*◌, ◌≤◌, ℕ, Bool, false, length, vec_len, vec_capacity, Some, IsSome};
-ghost use Rattle.homefree.specs.Came.{answer_of};
-ghost use Rattle.homefree.specs.Acted.{Acted};
-ghost use Rattle.homefree.specs.Arms.{Arrives, RunsEpoch, WentStraight, running_by};
+ghost use Rattle.std.specs.Prelude.{◌≡◌, ◌∷◌, [], ◌++◌, ◌+◌, ◌≤◌, ℕ, Bool, false, Some, IsSome};
+ghost use Rattle.homefree.specs.Takes.{Takes};
+ghost use Rattle.homefree.specs.Arms.{HomefreeArrives, MayGoStraight, WentStraight, running_by};
 ghost use Rattle.homefree.specs.Moves.{publish_calls};
 ghost use Rattle.violations.specs.Calls.{Leads};
 ghost use Rattle.violations.specs.Calls as call;
 
 use crate::answer::Came;
 use crate::parts::Parts;
+use crate::register::Access;
 use run_ledger::Shares;
 use rv32_exec::{Arrived, Stop};
 use violations::{Attempt, EpochStore};
@@ -16,10 +16,7 @@ use violations::{Attempt, EpochStore};
 impl<S: EpochStore> Parts<S> {
     /// The homefree core publishes, unless it is straight. Answers what it runs then.
     fn go_straight(&mut self, core: u32, now: Attempt, arrived: &Arrived) -> Attempt
-        requires budget { 1 ≤ S.budget self.old.store }
-        requires runs { RunsEpoch self.old.register (S.view self.old.store) core (running_by now arrived.now.base) }
-        requires room { vec_len self.old.register.history + length self.old.register.running.items ≤ vec_capacity self.old.register.history }
-        requires homefree { now.epoch ≡ self.old.register.homefree }
+        requires { MayGoStraight self.old.register (S.view self.old.store) (S.budget self.old.store) core (running_by now arrived.now.base) }
         ensures straight { WentStraight self.old.register self.new.register (S.view self.old.store) (S.view self.new.store) core (running_by now arrived.entry.now.base) (running_by result arrived.entry.now.base) }
         ensures moves { Leads S.makes (publish_calls now.straight core) self.old.store self.new.store }
         ensures budget { S.budget self.old.store ≤ S.budget self.new.store + 1 }
@@ -47,19 +44,16 @@ impl<S: EpochStore> Parts<S> {
         addr: u32,
         width: u32,
     ) -> Came
-        requires budget { 2 ≤ S.budget self.old.store }
-        requires arrives { Arrives self.old.register (S.view self.old.store) shares.old core (running_by now arrived.now.base) arrived.now arrived.now.at }
-        requires homefree { now.epoch ≡ self.old.register.homefree }
+        requires arrives { (signed : Bool) × (rd : ℕ) × HomefreeArrives self.old.register (S.view self.old.store) (S.budget self.old.store) shares.old core (running_by now arrived.now.base) arrived.now (Stop.Load addr width signed rd) }
         requires waits { now.straight ≡ false → IsSome ((S.waits self.old.store).load core addr width) }
-        requires load { (signed : Bool) × (rd : ℕ) × (arrived.now.at ≡ Stop.Load addr width signed rd) }
-        ensures acted { Acted self.old.register self.new.register (S.waits self.old.store) (S.view self.old.store) (S.view self.new.store) shares.old shares.new core (Some arrived.entry.now) (answer_of self.new.register.running.items core result) }
-        ensures moves { Leads S.makes (publish_calls now.straight core ++ call.StraightLoad core addr width ∷ []) self.old.store self.new.store }
+        ensures { Takes S.view S.waits self.old self.new shares.old shares.new core (Some arrived.entry.now) result (Leads S.makes (publish_calls now.straight core ++ call.StraightLoad core addr width ∷ [])) }
     {
         let straight = self.go_straight(core, now, arrived);
         let (value, hurt) = self.store.straight_load(core, addr, width);
         self.store.look();
+        let access = Access { addr, width, value };
         self.register
-            .load(shares, core, straight, arrived, addr, width, value, hurt);
+            .load(shares, core, straight, arrived, access, hurt);
         Came::Goes
     }
 
@@ -70,23 +64,18 @@ impl<S: EpochStore> Parts<S> {
         core: u32,
         now: Attempt,
         arrived: &Arrived,
-        addr: u32,
-        width: u32,
-        value: u32,
+        access: Access,
     ) -> Came
-        requires budget { 2 ≤ S.budget self.old.store }
-        requires arrives { Arrives self.old.register (S.view self.old.store) shares.old core (running_by now arrived.now.base) arrived.now arrived.now.at }
-        requires homefree { now.epoch ≡ self.old.register.homefree }
-        requires waits { now.straight ≡ false → IsSome ((S.waits self.old.store).store core addr width) }
-        requires store { arrived.now.at ≡ Stop.Store addr width value }
-        ensures acted { Acted self.old.register self.new.register (S.waits self.old.store) (S.view self.old.store) (S.view self.new.store) shares.old shares.new core (Some arrived.entry.now) (answer_of self.new.register.running.items core result) }
-        ensures moves { Leads S.makes (publish_calls now.straight core ++ call.StraightStore core addr width value ∷ []) self.old.store self.new.store }
+        requires arrives { HomefreeArrives self.old.register (S.view self.old.store) (S.budget self.old.store) shares.old core (running_by now arrived.now.base) arrived.now (Stop.Store access.addr access.width access.value) }
+        requires waits { now.straight ≡ false → IsSome ((S.waits self.old.store).store core access.addr access.width) }
+        ensures { Takes S.view S.waits self.old self.new shares.old shares.new core (Some arrived.entry.now) result (Leads S.makes (publish_calls now.straight core ++ call.StraightStore core access.addr access.width access.value ∷ [])) }
     {
         let straight = self.go_straight(core, now, arrived);
+        let Access { addr, width, value } = access;
         let hurt = self.store.straight_store(core, addr, width, value);
         self.store.look();
         self.register
-            .store(shares, core, straight, arrived, addr, width, value, hurt);
+            .store(shares, core, straight, arrived, access, hurt);
         Came::Goes
     }
 }

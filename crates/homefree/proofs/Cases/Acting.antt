@@ -244,13 +244,14 @@ same_hart x y is =
 pub handed_in : (next : Option (Bor Arrived)) (arrived : Bor Arrived) (image : LoadedImage) → next ≡ Some arrived → IfArrived image (option_copied next) → IfArrived image (Some arrived.now)
 handed_in next arrived image is comes = subst (λ n. IfArrived image (option_copied n)) is comes
 
-pub arrives : (r : Register) (v : StoreView) (shares : Counts) (core : ℕ) (runs : Running) (attempt : Attempt) (a : Arrival) → core < length r.running.items → Fits r v → r.end ≡ None → MayNote r shares
-    → running_at r.running.items core ≡ Some runs → runs.hurt ≡ false → attempt ≡ attempt_of runs.epoch runs.straight → a.base ≡ runs.hart → IfArrived r.image (Some a)
-    → Arrives r v shares core (running_by attempt a.base) a a.at
-arrives r v shares core runs attempt a there fits going notes at unhurt is base comes =
+pub arrives : {budget : ℕ} (r : Register) (v : StoreView) (shares : Counts) (core : ℕ) (runs : Running) (attempt : Attempt) (a : Arrival) → core < length r.running.items → Fits r v → r.end ≡ None → MayNote r shares
+    → running_at r.running.items core ≡ Some runs → runs.hurt ≡ false → attempt ≡ attempt_of runs.epoch runs.straight → a.base ≡ runs.hart → IfArrived r.image (Some a) → 2 ≤ budget
+    → Arrives r v budget shares core (running_by attempt a.base) a a.at
+arrives r v shares core runs attempt a there fits going notes at unhurt is base comes left =
     let same : runs ≡ running_by attempt a.base = λ i. record { epoch = (sym is i).epoch; hart = sym base i; straight = (sym is i).straight; hurt = unhurt i } in
     let at_core = at ∙ ap Some same in record {
       running = record { there = there; fits = fits; going = going; runs = at_core; unhurt = refl };
       notes = notes;
       is_at = record { runs = at_core; unhurt = refl; base = refl; hart = comes.0; event = comes.1; is = refl };
+      budget_left = left;
     }

@@ -39,21 +39,21 @@ use Rattle.homefree.proofs.Fields.Batches.{hurts_same}
 use Rattle.homefree.proofs.Fields.Hurting.{hurts_fewer}
 use Rattle.homefree.proofs.Cases.Standing.{Stands, stands, is_at, homefree_is, runs_by}
 use Rattle.homefree.proofs.Cases.Acting.{acted, acted_nothing}
-use Rattle.homefree.proofs.Cases.Accessing.{at_this, one_more_entry, are_few}
+use Rattle.homefree.proofs.Cases.Accessing.{one_more_entry, are_few}
 
 -- ---- an epoch that isn't the homefree one
 
-pub too_early : {waits : Waits} (old : Register) (v : StoreView) (shares : Counts) (core : ℕ) (now : Running) (arrived : Arrival) (at : Stop)
-    → Arrives old v shares core now arrived arrived.at → arrived.at ≡ at → turn.IsEnd at → now.epoch ≢ old.homefree
+pub too_early : {waits : Waits} {budget : ℕ} (old : Register) (v : StoreView) (shares : Counts) (core : ℕ) (now : Running) (arrived : Arrival) (at : Stop)
+    → Arrives old v budget shares core now arrived at → turn.IsEnd at → now.epoch ≢ old.homefree
     → Acted old old waits v v shares shares core (Some arrived) (Again NotHomefree)
-too_early old v shares core now arrived at a this ends later =
+too_early old v shares core now arrived at a ends later =
     let f = a.running.fits in
     let st = stands old v core now a.running in
     acted_nothing old v shares core (Some arrived) (Again NotHomefree) f
     (turn.follows (turn.is_early (record {
       core = st.c;
       at = at;
-      comes = is_at old v core now arrived at f st (at_this old core now arrived at a.is_at this);
+      comes = is_at old v core now arrived at f st a.is_at;
       ends = ends;
       later = λ same. later (ap (λ (x : Running). x.epoch) (sym st.is) ∙ (same ∙ sym f.shows.homefree));
       store = refl;

@@ -23,7 +23,7 @@ use Rattle.homefree.specs.BookInside.{IsAsBefore, book_of}
 use Rattle.homefree.specs.BookView.{BookView, ReplaysTo}
 use Rattle.homefree.specs.Fixed.{TurnsStore}
 use Rattle.homefree.specs.Kept.{Fits, Shows, running_at}
-use Rattle.homefree.specs.Moves.{Moves, TurnMoves, StoreMoves, Standing, standing_of, IsHanded, access_calls, calls_of, cancel_calls, exits_of, is_exit, stop_calls}
+use Rattle.homefree.specs.Moves.{Moves, TurnMoves, StoreMoves, Standing, standing_of, IsHanded, access_calls, calls_of, cancel_calls, exits_of, is_exit, publish_calls, stop_calls}
 use Rattle.homefree.specs.Standing.{standing}
 use Rattle.homefree.specs.Turned.{IsStale, MayAct, Turned, turn_at}
 
@@ -35,6 +35,25 @@ leads_then makes (call ∷ calls) last s t u leads more = (leads.0, leads.1, lea
 
 pub leads_one : {S : Type 0} (makes : S → Call → S → Type 0) (first : List Call) (call : Call) (s t u : S) → Leads makes first s t → makes t call u → Leads makes (first ++ call ∷ []) s u
 leads_one makes first call s t u leads made = leads_then makes first (call ∷ []) s t u leads (u, made, refl)
+
+-- ---- a speculative access
+
+-- it doesn't wait
+pub leads_done : {S : Type 0} (makes : S → Call → S → Type 0) (waits same : Bool) (core : ℕ) (speculative access : Call) (s t : S) → waits ≡ false → makes s speculative t
+    → Leads makes (access_calls false (waits && same) core speculative access) s t
+leads_done makes waits same core speculative access s t free made = rw free (t, made, refl)
+
+-- it waits, and the epoch isn't the homefree one
+pub leads_late : {S : Type 0} (makes : S → Call → S → Type 0) (waits same : Bool) (core : ℕ) (speculative access : Call) (s t : S) → waits ≡ true → same ≡ false → makes s speculative t
+    → Leads makes (access_calls false (waits && same) core speculative access) s t
+leads_late makes waits same core speculative access s t waiting later made = rw (waiting, later) (t, made, refl)
+
+-- it waits, and the homefree core goes straight
+pub leads_goes : {S : Type 0} (makes : S → Call → S → Type 0) (waits same straight : Bool) (core : ℕ) (speculative access : Call) (s t u : S) → waits ≡ true → same ≡ true → straight ≡ false
+    → makes s speculative t → Leads makes (publish_calls straight core ++ access ∷ []) t u
+    → Leads makes (access_calls false (waits && same) core speculative access) s u
+leads_goes makes waits same straight core speculative access s t u waiting home speculates made leads =
+    rw (waiting, home) (t, made, subst (λ b. Leads makes (publish_calls b core ++ access ∷ []) t u) speculates leads)
 
 -- ---- turns that make no call
 

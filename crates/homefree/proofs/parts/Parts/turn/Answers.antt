@@ -1,4 +1,4 @@
-use Rattle.std.proofs.Common.{◌≢◌, option_copied, sym, ap, ◌∙◌}
+use Rattle.std.proofs.Common.{rules, ◌≢◌, option_copied, sym, ap, arith, ◌∙◌}
 use Rattle.homefree.proofs.Fields.Batches.{running_read}
 use Rattle.homefree.proofs.Cases.Acting.{told, none_stale, other_stale, differs, same_hart, handed_in, arrives}
 use Rattle.homefree.specs.Standing.{standing}
@@ -38,14 +38,16 @@ returns-else-eq-clause-moves g c =
     moves_told g.S.EpochStore.makes g.S.EpochStore.view (standing old.register (g.S.EpochStore.waits old.store) c.args.core (option_copied c.args.next)) old.store now runs c.if-now.false
     (other_stale c.args.next c.in-Some-next.arrived now.hart c.in-Some-next.is other)
 
-pub run-requires-clause-arrives : goal.run-requires-clause-arrives
-run-requires-clause-arrives g c κs within =
+pub run-requires : goal.run-requires
+run-requires g c =
     let old = c.args.self.now in
     let now = c.in-Some.now in
-    let runs = running_read old.register.running.items c.args.core c.index.result.now c.requires.core c.index.ensures ∙ c.in-Some.is in
-    arrives old.register (g.S.EpochStore.view old.store) c.args.shares.now c.args.core now c.attempt-now.result c.in-Some-next.arrived.now c.requires.core c.requires.fits c.requires.going c.requires.notes
-    runs c.if-now.false c.attempt-now.ensures (sym c.base.ensures ∙ same_hart c.base.result.now now.hart (sym c.eq.ensures ∙ c.if-eq.true))
-    (handed_in c.args.next c.in-Some-next.arrived old.register.image c.in-Some-next.is c.requires.next)
+    let runs = running_read old.register.running.items c.args.core c.index.result.now c.requires.core c.index.ensures ∙ c.in-Some.is in (
+      search rules,
+      arrives {budget = g.S.EpochStore.budget old.store} old.register (g.S.EpochStore.view old.store) c.args.shares.now c.args.core now c.attempt-now.result c.in-Some-next.arrived.now c.requires.core c.requires.fits c.requires.going c.requires.notes
+          runs c.if-now.false c.attempt-now.ensures (sym c.base.ensures ∙ same_hart c.base.result.now now.hart (sym c.eq.ensures ∙ c.if-eq.true))
+          (handed_in c.args.next c.in-Some-next.arrived old.register.image c.in-Some-next.is c.requires.next) (let budget = c.requires.budget in omega (arith, budget)),
+    )
 
 pub returns-then-eq-clause-moves : goal.returns-then-eq-clause-moves
 returns-then-eq-clause-moves g c =
@@ -53,8 +55,8 @@ returns-then-eq-clause-moves g c =
     let now = c.in-Some.now in
     let a = c.in-Some-next.arrived.now in
     let runs = running_read old.register.running.items c.args.core c.index.result.now c.requires.core c.index.ensures ∙ c.in-Some.is in
-    let at = arrives old.register (g.S.EpochStore.view old.store) c.args.shares.now c.args.core now c.attempt-now.result a c.requires.core c.requires.fits c.requires.going c.requires.notes
+    let at = arrives {budget = g.S.EpochStore.budget old.store} old.register (g.S.EpochStore.view old.store) c.args.shares.now c.args.core now c.attempt-now.result a c.requires.core c.requires.fits c.requires.going c.requires.notes
     runs c.if-now.false c.attempt-now.ensures (sym c.base.ensures ∙ same_hart c.base.result.now now.hart (sym c.eq.ensures ∙ c.if-eq.true))
-    (handed_in c.args.next c.in-Some-next.arrived old.register.image c.in-Some-next.is c.requires.next) in
+    (handed_in c.args.next c.in-Some-next.arrived old.register.image c.in-Some-next.is c.requires.next) (let budget = c.requires.budget in omega (arith, budget)) in
     moves_run g.S.EpochStore.makes g.S.EpochStore.view (standing old.register (g.S.EpochStore.waits old.store) c.args.core (option_copied c.args.next)) c.attempt-now.result a old.store c.run.new.self.store
-    at.running.runs (ap option_copied c.in-Some-next.is) at.is_at.hart at.is_at.event c.run.ensures.moves
+    at.running.runs (ap option_copied c.in-Some-next.is) at.is_at.hart at.is_at.event c.run.ensures.takes.1

@@ -21,11 +21,11 @@ returns-clause-steps c =
     let mid = c.hurt_all.new.self in
     let at = at_stop_after c.args.self.now mid c.args.core (running_by c.args.now c.args.arrived.now.base) c.args.arrived.now _ c.requires.at (c.hurt_all.ensures.steps no_counts).image (c.hurt_all.ensures.spared c.args.core c.requires.may.spared) in
     steps_then c.args.self.now mid _ c.args.shares.now c.args.shares.now _ _ _ (c.hurt_all.ensures.steps c.args.shares.now)
-    (loaded mid _ c.args.shares.now _ c.args.core (running_by c.args.now c.args.arrived.now.base) c.args.arrived.now c.args.arrived.now.at c.args.addr c.args.width c.args.value _ at
-    refl refl c.set_loaded.ensures.len c.note.ensures.items c.note.ensures.room c.note.ensures.used c.count_load.ensures.totals c.count_load.ensures.shares refl refl refl (c.set_loaded.ensures.each (running_by c.args.now c.args.arrived.now.base) at.runs))
+    (loaded mid _ c.args.shares.now _ c.args.core (running_by c.args.now c.args.arrived.now.base) c.args.arrived.now c.args.arrived.now.at c.args.access.addr c.args.access.width c.args.access.value _ at
+    refl refl (c.set_loaded.ensures (running_by c.args.now c.args.arrived.now.base) at.runs).len c.note.ensures.items c.note.ensures.room c.note.ensures.used c.count_load.ensures.totals c.count_load.ensures.shares refl refl refl (c.set_loaded.ensures (running_by c.args.now c.args.arrived.now.base) at.runs).each)
 
 pub returns-clause-hart : goal.returns-clause-hart
 returns-clause-hart c =
     let mid = c.hurt_all.new.self in
     let at = at_stop_after c.args.self.now mid c.args.core (running_by c.args.now c.args.arrived.now.base) c.args.arrived.now _ c.requires.at (c.hurt_all.ensures.steps no_counts).image (c.hurt_all.ensures.spared c.args.core c.requires.may.spared) in
-    went_on _ c.args.core _ _ (c.set_loaded.ensures.each (running_by c.args.now c.args.arrived.now.base) at.runs c.args.core)
+    went_on _ c.args.core _ _ ((c.set_loaded.ensures (running_by c.args.now c.args.arrived.now.base) at.runs).each c.args.core)

@@ -16,12 +16,12 @@ returns-clause-steps c shares =
     let mid = c.hurt_all.new.self in
     let runs = c.hurt_all.ensures.spared c.args.core c.requires.may.1.spared ∙ c.requires.may.1.runs in
     steps_then c.args.self.now mid _ shares shares shares _ _ (c.hurt_all.ensures.steps shares)
-    (published mid _ shares c.args.core c.requires.may.0 runs refl c.set_straight.ensures.len c.note.ensures.items c.note.ensures.room c.note.ensures.used refl refl refl refl
-    (c.set_straight.ensures.each c.requires.may.0 runs))
+    (published mid _ shares c.args.core c.requires.may.0 runs refl (c.set_straight.ensures c.requires.may.0 runs).len c.note.ensures.items c.note.ensures.room c.note.ensures.used refl refl refl refl
+    (c.set_straight.ensures c.requires.may.0 runs).each)
 
 pub returns-clause-runs : goal.returns-clause-runs
 returns-clause-runs c now runs =
     let mid = c.hurt_all.new.self in
     let at = c.hurt_all.ensures.spared c.args.core c.requires.may.1.spared ∙ runs in
     let same : (c.args.core == c.args.core) ≡ true = grind (arith, nat_tests) in
-    c.set_straight.ensures.each now at c.args.core ∙ ap (λ b. cond b (Some (record now { straight = true })) (running_at mid.running.items c.args.core)) same
+    (c.set_straight.ensures now at).each c.args.core ∙ ap (λ b. cond b (Some (record now { straight = true })) (running_at mid.running.items c.args.core)) same
