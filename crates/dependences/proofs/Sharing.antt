@@ -321,10 +321,6 @@ module _ (lines cores limit e : ℕ) (T S T' : ℕ → ℕ → Type 0) (t : Touc
   -- ---- the last one that touched the line
 
   module _ (d : ℕ) (is : d + 1 ≡ slice_index t.two.last line) where
-    -- it touches the line, and is before this epoch
-    touches_it : T line d
-    touches_it = last_is (T line) (e + 1) (slice_index t.two.last line) d (sym is) (x.last line)
-
     shared_by_test : (l : ℕ) → is_shared_now t cores e line ≡ false → 0 < slice_index t.counts d → IsSharedLine cores T' S d l → IsSharedLine cores T S d l
     shared_by_test l unshared some y = elim (shared_back d l y) [
       | inl was ↦ was

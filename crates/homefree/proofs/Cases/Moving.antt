@@ -48,13 +48,6 @@ pub leads_late : {S : Type 0} (makes : S → Call → S → Type 0) (waits same 
     → Leads makes (access_calls false (waits && same) core speculative access) s t
 leads_late makes waits same core speculative access s t waiting later made = rw (waiting, later) (t, made, refl)
 
--- it waits, and the homefree core goes straight
-pub leads_goes : {S : Type 0} (makes : S → Call → S → Type 0) (waits same straight : Bool) (core : ℕ) (speculative access : Call) (s t u : S) → waits ≡ true → same ≡ true → straight ≡ false
-    → makes s speculative t → Leads makes (publish_calls straight core ++ access ∷ []) t u
-    → Leads makes (access_calls false (waits && same) core speculative access) s u
-leads_goes makes waits same straight core speculative access s t u waiting home speculates made leads =
-    rw (waiting, home) (t, made, subst (λ b. Leads makes (publish_calls b core ++ access ∷ []) t u) speculates leads)
-
 -- ---- turns that make no call
 
 -- a core whose epoch has ended, and isn't the homefree one
