@@ -202,7 +202,7 @@ FLOWING = {
     "list_walk": ["after 0 of 200 instructions, what the store at 00000014 left after 5 of 200, 1 epoch before; 4 "
                   "times in all, at cursor. It looks like "
                   "the walk of a list"],
-    "queens": ["over a plain store of bytes none on up to 8 cores does (proved)"],
+    "queens": ["No schedule on up to 8 cores can roll this loop back (proved)."],
 }
 
 
