@@ -25,8 +25,8 @@ use std::alloc::Global;
 pub enum CacheConflict {
     /// The earlier one stores in a line in which the later one, this one, reads a byte from outside.
     Line { later: u32 },
-    /// An epoch stores in a line that an earlier one touches, and in as many other shared lines as its buffer takes. The last of those
-    /// that touch these is this one.
+    /// An epoch, this one or one before it, stores in a line that an earlier one touches, and in as many other shared lines as its
+    /// buffer takes.
     Buffer { later: u32 },
 }
 
