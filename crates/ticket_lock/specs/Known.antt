@@ -73,6 +73,12 @@ module _ {F W T : Type 0} where
     pub value : T
     pub slot : s.me.1 ≡ (0, in_slot value) ∷ []
 
+-- the pass is of this lock, and this number parts its numbers in two
+pub record IsCutAt {F W : Type 0} (l : LockOf F) (p : Known F W) (at : ℕ) : Type 0 where
+  pub own : p.lock ≡ Some l
+  pub below : p.lo < at
+  pub above : at < p.hi
+
 -- the lock of the pass was opened with this fixed part
 abbrev pub IsFixedOf : {F W : Type 0} → Known F W → F → Type 0
 IsFixedOf p f = option_map (λ l. l.fixed) p.lock ≡ Some f

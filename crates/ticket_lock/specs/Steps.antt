@@ -1,5 +1,6 @@
 -- What each step on the table tells the seat that makes it.
 use Rattle.std.specs.Prelude.{◌≡◌, ℕ, ◌<◌, ◌≤◌, ◌^◌, true, ◌==◌, ◌||◌, List, [], ◌∷◌, Some, None, All, MatchBool, if◌then◌else◌}
+use Rattle.atomic_table.specs.Seated.{TableId}
 use Rattle.atomic_table.specs.Table.{Me, Step}
 use Rattle.atomic_table.specs.declared.shared.Seat.{Seat}
 use Rattle.ticket_lock.specs.declared.rule.Slot.{Slot}
@@ -85,3 +86,14 @@ module _ {T F W : Type 0} where
 
   abbrev pub IsWaiting : Seat (Slot T) (View F W) → ℕ → Type 0
   IsWaiting s t = IsLive s.me.0 × (s.me.0.turn ≡ Waiting t) × (s.me.1 ≡ [])
+
+  -- such a seat is at this table, which has the two words
+  pub record MayDraw (z : TableId) (s : Seat (Slot T) (View F W)) : Type 0 where
+    pub table : s.table_id ≡ z
+    pub words : z.words ≡ 2
+    pub idle : IsIdle s
+
+  pub record MayTake (z : TableId) (s : Seat (Slot T) (View F W)) (t : ℕ) : Type 0 where
+    pub table : s.table_id ≡ z
+    pub words : z.words ≡ 2
+    pub waiting : IsWaiting s t

@@ -1,7 +1,7 @@
 //! The lock.
 ghost use Rattle.std.specs.Prelude.{◌≡◌, ◌<◌, ◌≤◌, ◌^◌, Some, None, IfOk, IfErr, true, All};
 ghost use Rattle.ticket_lock.specs.Past.{StartsWith, entries_of};
-ghost use Rattle.ticket_lock.specs.Known.{mine, first_pass, joined_pass};
+ghost use Rattle.ticket_lock.specs.Known.{IsCutAt, mine, first_pass, joined_pass};
 
 use crate::errors::{NoMemory, Spent};
 use crate::held::Held;
@@ -106,8 +106,7 @@ impl<T: Kept, A: Allocator> TicketLock<T, A> {
     }
 
     fn split_by<C: Cut>(&self, pass: Pass<T>, at: u64) -> (Pass<T>, Pass<T>)
-        requires own { pass.lock ≡ Some self.now }
-        requires inside { (pass.lo < at) × (at < pass.hi) }
+        requires pass { IsCutAt self.now pass at }
         requires cut { at ≡ C.at }
         ensures first { result.0 ≡ record pass { hi = at } }
         ensures second { result.1 ≡ record pass { lo = at } }

@@ -1,7 +1,7 @@
-//! How a thread takes the lock: it draws a ticket, and waits until that is served. Each is tried once before there is a loop.
+//! How a thread takes the lock: it draws a ticket, and waits until that is served.
 ghost use Rattle.std.specs.Prelude.{◌≡◌, ◌<◌, ◌^◌, true, [], IfSome, MatchOption, MatchResult, None};
 ghost use Rattle.ticket_lock.specs.declared.rule.Turn.TheVariants.{Waiting};
-ghost use Rattle.ticket_lock.specs.Steps.{IsHanded, Becomes, IsIdle, IsWaiting};
+ghost use Rattle.ticket_lock.specs.Steps.{IsHanded, Becomes, MayDraw, MayTake};
 
 use crate::kept::Kept;
 use crate::places::{Places, Waiter};
@@ -13,8 +13,7 @@ use std::sync::Wait;
 /// The ticket to try: the expected one, or, where there is none of that number, the one that a look at the word finds. None: the look finds
 /// that they are all drawn, which only a look at the word tells the pass.
 fn to_try<T: Kept>(words: &Words<T>, seat: &mut Place<T>, expected: u64) -> Option<u64>
-    requires table { (seat.old.table_id ≡ words.now.table_id) × (words.now.table_id.words ≡ 2) }
-    requires idle { IsIdle seat.old }
+    requires { MayDraw words.now.table_id seat.old }
     ensures tried { IfSome result (λ t. (t < 2 ^ 63) × Becomes seat.old seat.new seat.old.me) }
     ensures spent { result ≡ None → Becomes seat.old seat.new (record seat.old.me.0 { out = true }, []) }
 {
@@ -23,26 +22,6 @@ fn to_try<T: Kept>(words: &Words<T>, seat: &mut Place<T>, expected: u64) -> Opti
     }
     let next = words.load::<LookNext>(seat, NEXT);
     if next == END { None } else { Some(next) }
-}
-
-/// Tries to draw the expected ticket. Err: it isn't drawn, the pass is as it was, and this was found to be the next ticket; or there is none of
-/// the expected number.
-fn try_draw<T: Kept>(words: &Words<T>, seat: &mut Place<T>, expected: u64) -> Result<(), u64>
-    requires table { (seat.old.table_id ≡ words.now.table_id) × (words.now.table_id.words ≡ 2) }
-    requires idle { IsIdle seat.old }
-    ensures { MatchResult result
-        (λ _. Becomes seat.old seat.new (record seat.old.me.0 { turn = Waiting expected }, []))
-        (λ _. Becomes seat.old seat.new seat.old.me) }
-{
-    if expected >= END {
-        return Err(expected);
-    }
-    let found = words.compare_exchange::<Draw>(seat, NEXT, expected, expected + 1);
-    if found == expected {
-        Ok(())
-    } else {
-        Err(found)
-    }
 }
 
 /// Draws the next ticket. None: they are all drawn.
@@ -55,27 +34,7 @@ pub(crate) fn draw<T: Kept, R: Wait>(
     seat: &mut Place<T>,
     expected: u64,
 ) -> Option<u64>
-    requires table { (seat.old.table_id ≡ words.now.table_id) × (words.now.table_id.words ≡ 2) }
-    requires idle { IsIdle seat.old }
-    ensures { MatchOption result
-        (Becomes seat.old seat.new (record seat.old.me.0 { out = true }, []))
-        (λ t. Becomes seat.old seat.new (record seat.old.me.0 { turn = Waiting t }, [])) }
-{
-    match try_draw(words, seat, expected) {
-        Ok(()) => Some(expected),
-        Err(next) => draw_again(rt, words, seat, next),
-    }
-}
-
-/// The same, after a try that was lost.
-fn draw_again<T: Kept, R: Wait>(
-    rt: &R,
-    words: &Words<T>,
-    seat: &mut Place<T>,
-    expected: u64,
-) -> Option<u64>
-    requires table { (seat.old.table_id ≡ words.now.table_id) × (words.now.table_id.words ≡ 2) }
-    requires idle { IsIdle seat.old }
+    requires { MayDraw words.now.table_id seat.old }
     ensures { MatchOption result
         (Becomes seat.old seat.new (record seat.old.me.0 { out = true }, []))
         (λ t. Becomes seat.old seat.new (record seat.old.me.0 { turn = Waiting t }, [])) }
@@ -83,12 +42,13 @@ fn draw_again<T: Kept, R: Wait>(
     let backoff = Backoff::new();
     let mut next = expected;
     for _ in rt.forever() {
-        backoff.spin();
         let ticket = to_try(words, seat, next)?;
-        match try_draw(words, seat, ticket) {
-            Ok(()) => return Some(ticket),
-            Err(found) => next = found,
+        let found = words.compare_exchange::<Draw>(seat, NEXT, ticket, ticket + 1);
+        if found == ticket {
+            return Some(ticket);
         }
+        next = found;
+        backoff.spin();
     }
     unreachable!()
 }
@@ -96,8 +56,7 @@ fn draw_again<T: Kept, R: Wait>(
 /// A look whether the ticket is served. The look that finds it takes the value, which is then in the slot that the seat has: no other thread
 /// has that ticket, so none has to be kept out by an exchange. Err: this one is served, and the pass is as it was.
 fn try_take<T: Kept>(words: &Words<T>, seat: &mut Place<T>, ticket: u64) -> Result<(), u64>
-    requires table { (seat.old.table_id ≡ words.now.table_id) × (words.now.table_id.words ≡ 2) }
-    requires waiting { IsWaiting seat.old ticket }
+    requires { MayTake words.now.table_id seat.old ticket }
     ensures same { (seat.new.table_id ≡ seat.old.table_id) × (seat.new.id ≡ seat.old.id) }
     ensures handed { MatchResult result (λ _. (x : T) × IsHanded T.fixed T.past seat.old.me.0 ticket x seat.new.me) (λ _. seat.new.me ≡ seat.old.me) }
 {
@@ -110,6 +69,9 @@ fn try_take<T: Kept>(words: &Words<T>, seat: &mut Place<T>, ticket: u64) -> Resu
 }
 
 /// Waits until the ticket is served, and takes the value, which is then in the slot that the seat has.
+///
+/// It looks at first, and then sleeps. A thread that only looked, or that gave up its processor between two looks, would hold up the
+/// queue where more threads run than there are processors: each hand-over would wait until the scheduler comes round to the next.
 pub(crate) fn wait<T: Kept, R: Wait>(
     rt: &R,
     words: &Words<T>,
@@ -117,32 +79,13 @@ pub(crate) fn wait<T: Kept, R: Wait>(
     seat: &mut Place<T>,
     ticket: u64,
 )
-    requires table { (seat.old.table_id ≡ words.now.table_id) × (words.now.table_id.words ≡ 2) }
-    requires waiting { IsWaiting seat.old ticket }
+    requires { MayTake words.now.table_id seat.old ticket }
     ensures same { (seat.new.table_id ≡ seat.old.table_id) × (seat.new.id ≡ seat.old.id) }
     ensures handed { (x : T) × IsHanded T.fixed T.past seat.old.me.0 ticket x seat.new.me }
 {
-    if try_take(words, seat, ticket).is_err() {
-        wait_on(rt, words, places, seat, ticket);
+    if try_take(words, seat, ticket).is_ok() {
+        return;
     }
-}
-
-/// The same, where another ticket was served at the first look.
-///
-/// It looks at first, and then sleeps. A thread that only looked, or that gave up its processor between two looks, would hold up the
-/// queue where more threads run than there are processors: each hand-over would wait until the scheduler comes round to the next.
-fn wait_on<T: Kept, R: Wait>(
-    rt: &R,
-    words: &Words<T>,
-    places: Places<'_>,
-    seat: &mut Place<T>,
-    ticket: u64,
-)
-    requires table { (seat.old.table_id ≡ words.now.table_id) × (words.now.table_id.words ≡ 2) }
-    requires waiting { IsWaiting seat.old ticket }
-    ensures same { (seat.new.table_id ≡ seat.old.table_id) × (seat.new.id ≡ seat.old.id) }
-    ensures handed { (x : T) × IsHanded T.fixed T.past seat.old.me.0 ticket x seat.new.me }
-{
     let mut waiter = Waiter::new(places, ticket);
     for _ in rt.forever() {
         let Err(served) = try_take(words, seat, ticket) else {

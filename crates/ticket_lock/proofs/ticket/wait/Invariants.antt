@@ -1,5 +1,5 @@
 use Rattle.ticket_lock.specs.Steps.{Becomes}
-use Rattle.ticket_lock.proofs.ticket.wait_on.Given as goal
+use Rattle.ticket_lock.proofs.ticket.wait.Given as goal
 
 -- the seat is as it was
 abbrev pub invariant-loop : goal.invariant-loop
