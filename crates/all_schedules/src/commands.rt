@@ -15,7 +15,7 @@ use crate::room::Room;
 use crate::settings::Settings;
 use crate::words::{Turns, asked_of};
 use core_threads::Gate;
-use run_command::{RunOptions, do_threads};
+use run_command::{RunAsked, RunOptions, do_threads};
 use spec_bus::CachedBus;
 use std::alloc::{AllocError, Global};
 use std::convert::AsStr;
@@ -127,13 +127,16 @@ fn answer<
             pace_waiting::<S, A, R, W, E>(alloc, waits, asked, reader, writer, errors)
         }
         Turns::Threaded { cores } => {
-            let asked = settings.asked;
             let options = RunOptions {
                 cores,
                 room: settings.room.entries(),
                 trace: true,
             };
-            do_threads::<S, G, T, R, W, E>(rt, alloc, asked, options, gate, reader, writer, errors)
+            let asked = RunAsked {
+                machine: settings.asked,
+                options,
+            };
+            do_threads::<S, G, T, R, W, E>(rt, alloc, asked, gate, reader, writer, errors)
         }
     }
 }

@@ -8,6 +8,6 @@ mod run;
 mod text;
 
 pub use machine::runnable;
-pub use options::RunOptions;
+pub use options::{RunAsked, RunOptions};
 pub use run::{do_run, do_threads};
 pub use text::with_history;

@@ -10,7 +10,7 @@ ghost use Rattle.run_command.specs.Run as spec;
 ghost use Rattle.run_command.specs.Threads.{IsMachineOutcome, IsThreadsOutcome};
 
 use crate::machine::runnable;
-use crate::options::RunOptions;
+use crate::options::{RunAsked, RunOptions};
 use crate::text::printed;
 use core_threads::{Finished, Gate, Halted, RunFault, history_is_explained, run_cores};
 use rv32_exec::{End, Image, read_image};
@@ -32,20 +32,20 @@ pub fn do_run<G: Gate, T: Threads + Wait + Sync, R: Read, W: Write, E: Write>(
     writer: &mut W,
     errors: &mut E,
 ) -> u8
-    requires cores { 1 ≤ options.cores }
-    requires least { 16 ≤ options.room }
-    requires most { options.room ≤ 1048576 }
     ensures outcome { ForText (R.remaining reader.old) (λ text.
         spec.RunAnswers options text (W.contents writer.old) (W.contents writer.new) (E.contents errors.old) (E.contents errors.new) result) }
     ensures taken { TakesAtMost (R.remaining reader.old) (R.remaining reader.new) (longest_image_text + 1) }
 {
-    let asked = MachineAsked::NOTHING;
-    do_threads::<CachedBus, G, T, R, W, E>(rt, alloc, asked, options, gate, reader, writer, errors)
+    let asked = RunAsked {
+        machine: MachineAsked::NOTHING,
+        options,
+    };
+    do_threads::<CachedBus, G, T, R, W, E>(rt, alloc, asked, gate, reader, writer, errors)
 }
 
 /// Runs the image that the reader gives, its epochs speculatively on a thread for each core, over a fresh store on the machine that is
 /// asked for, and writes the report; with a trace, below it `counts LOADS STORES RESTARTS COMMITS` and the trace of the history. Each
-/// core passes the gate before each of its turns. The cores are at least 1, and the room is 16 to 1,048,576 entries.
+/// core passes the gate before each of its turns.
 ///
 /// The status is 0 where the loop is done or exited, 1 where an epoch faulted, 2 where the image is refused, or is good and its version
 /// doesn't allow so many cores or there is no such machine for it, and 3 where the run was stopped, memory ran out or a write failed.
@@ -54,42 +54,34 @@ pub fn do_run<G: Gate, T: Threads + Wait + Sync, R: Read, W: Write, E: Write>(
 pub fn do_threads<S: EpochStore, G: Gate, T: Threads + Wait + Sync, R: Read, W: Write, E: Write>(
     rt: &T,
     alloc: Global,
-    asked: MachineAsked,
-    options: RunOptions,
+    asked: RunAsked,
     gate: &G,
     reader: &mut R,
     writer: &mut W,
     errors: &mut E,
 ) -> u8
-    requires cores { 1 ≤ options.cores }
-    requires least { 16 ≤ options.room }
-    requires most { options.room ≤ 1048576 }
     ensures outcome { ForText (R.remaining reader.old) (λ text.
-        Conclusion (IsThreadsOutcome (IsOfCaches S.view) asked options text (W.contents writer.old) (W.contents writer.new)) (E.contents errors.old) (E.contents errors.new) result) }
+        Conclusion (IsThreadsOutcome (IsOfCaches S.view) asked.machine asked.options text (W.contents writer.old) (W.contents writer.new)) (E.contents errors.old) (E.contents errors.new) result) }
     ensures taken { TakesAtMost (R.remaining reader.old) (R.remaining reader.new) (longest_image_text + 1) }
 {
-    run_input::<S, G, T, R, W>(rt, alloc, asked, options, gate, reader, writer).conclude(errors)
+    run_input::<S, G, T, R, W>(rt, alloc, asked, gate, reader, writer).conclude(errors)
 }
 
 /// Runs an input, all but its line on the error stream.
 fn run_input<S: EpochStore, G: Gate, T: Threads + Wait + Sync, R: Read, W: Write>(
     rt: &T,
     alloc: Global,
-    asked: MachineAsked,
-    options: RunOptions,
+    asked: RunAsked,
     gate: &G,
     reader: &mut R,
     writer: &mut W,
 ) -> Outcome
-    requires cores { 1 ≤ options.cores }
-    requires least { 16 ≤ options.room }
-    requires most { options.room ≤ 1048576 }
     ensures outcome { ForText (R.remaining reader.old) (λ text.
-        IsThreadsOutcome (IsOfCaches S.view) asked options text (W.contents writer.old) (W.contents writer.new) result) }
+        IsThreadsOutcome (IsOfCaches S.view) asked.machine asked.options text (W.contents writer.old) (W.contents writer.new) result) }
     ensures taken { TakesAtMost (R.remaining reader.old) (R.remaining reader.new) (longest_image_text + 1) }
 {
     match read_image(alloc, reader) {
-        Ok(image) => run_image::<S, G, T, W>(rt, alloc, asked, options, gate, image, writer),
+        Ok(image) => run_image::<S, G, T, W>(rt, alloc, asked, gate, image, writer),
         Err(fault) => Outcome::of_fault(fault),
     }
 }
@@ -97,18 +89,15 @@ fn run_input<S: EpochStore, G: Gate, T: Threads + Wait + Sync, R: Read, W: Write
 fn run_image<S: EpochStore, G: Gate, T: Threads + Wait + Sync, W: Write>(
     rt: &T,
     alloc: Global,
-    asked: MachineAsked,
-    options: RunOptions,
+    asked: RunAsked,
     gate: &G,
     image: Image,
     writer: &mut W,
 ) -> Outcome
-    requires cores { 1 ≤ options.cores }
-    requires least { 16 ≤ options.room }
-    requires most { options.room ≤ 1048576 }
-    ensures { IsMachineOutcome (IsOfCaches S.view) asked options (W.contents writer.old) (W.contents writer.new) image result }
+    ensures { IsMachineOutcome (IsOfCaches S.view) asked.machine asked.options (W.contents writer.old) (W.contents writer.new) image result }
 {
-    match runnable(image, asked, options.cores) {
+    let RunAsked { machine, options } = asked;
+    match runnable(image, machine, options.cores) {
         Some(image) => run_runnable::<S, G, T, W>(rt, alloc, options, gate, &image, writer),
         None => Outcome::Usage,
     }
@@ -123,9 +112,7 @@ fn run_runnable<S: EpochStore, G: Gate, T: Threads + Wait + Sync, W: Write>(
     image: &Image,
     writer: &mut W,
 ) -> Outcome
-    requires cores { IsCoreCount image.now options.cores }
-    requires least { 16 ≤ options.room }
-    requires most { options.room ≤ 1048576 }
+    requires { IsCoreCount image.now options.cores }
     ensures { spec.IsRun (IsOfCaches S.view) image.now (spec.loop_asked image.now options) options.trace (W.contents writer.old) (W.contents writer.new) result }
 {
     match run_and_print::<S, G, T>(rt, alloc, options, gate, image) {
@@ -148,9 +135,7 @@ fn run_and_print<S: EpochStore, G: Gate, T: Threads + Wait + Sync>(
     gate: &G,
     image: &Image,
 ) -> Result<(End, Vec<u8>), CommandStop>
-    requires cores { IsCoreCount image.now options.cores }
-    requires least { 16 ≤ options.room }
-    requires most { options.room ≤ 1048576 }
+    requires { IsCoreCount image.now options.cores }
     ensures end { IfOk result (λ r. r.0 ≡ (sequential_result image.now).end) }
     ensures text { IfOk result (λ r. spec.IsPrinted (IsOfCaches S.view) image.now (spec.loop_asked image.now options) options.trace r.1.items) }
     ensures stopped { IfErr result (spec.IsStop (IsOfCaches S.view) (spec.loop_asked image.now options)) }

@@ -3,7 +3,7 @@
 
 use crate::words::{cell, is_row, number};
 use core_threads::{Gate, Open, Shut};
-use run_command::{RunOptions, do_run, do_threads, runnable};
+use run_command::{RunAsked, RunOptions, do_run, do_threads, runnable};
 use rv32_exec::{Arrived, read_image};
 use spec_bus::CachedBus;
 use std::alloc::Global;
@@ -60,36 +60,19 @@ fn is_line(bytes: &[u8], line: &str) -> bool {
     }
 }
 
-/// A run, with its status.
-fn ran<G: Gate, T: Abort + Threads + Wait + Sync, R: Read, W: Write>(
+/// The status of a run over a store on this machine.
+fn ran_over<S: EpochStore, T: Threads + Wait + Sync>(
     rt: &T,
     alloc: Global,
-    options: RunOptions,
-    gate: &G,
-    reader: &mut R,
-    writer: &mut W,
-    errors: &mut Vec<u8>,
-) -> u8 {
-    assert!(rt; 1 <= options.cores && 16 <= options.room && options.room <= 1_048_576);
-    do_run(rt, alloc, options, gate, reader, writer, errors)
-}
-
-/// The same over a store on this machine.
-fn ran_over<S: EpochStore, T: Abort + Threads + Wait + Sync>(
-    rt: &T,
-    alloc: Global,
-    asked: MachineAsked,
-    options: RunOptions,
+    asked: RunAsked,
     mut reader: &[u8],
     writer: &mut Vec<u8>,
     errors: &mut Vec<u8>,
 ) -> u8 {
-    assert!(rt; 1 <= options.cores && 16 <= options.room && options.room <= 1_048_576);
     do_threads::<S, Open, T, &[u8], Vec<u8>, Vec<u8>>(
         rt,
         alloc,
         asked,
-        options,
         &Open,
         &mut reader,
         writer,
@@ -104,10 +87,13 @@ fn is_of_row<A: Abort>(rt: &A, line: &str, status: u8, printed: &[u8], told: &[u
     assert!(rt; is_line(told, cell(line, 6)), "{line}");
 }
 
-fn options_of(line: &str) -> RunOptions {
+fn options_of<A: Abort>(rt: &A, line: &str) -> RunOptions {
+    let cores = number(cell(line, 0), 0);
+    let room = number(cell(line, 1), 0);
+    assert!(rt; 1 <= cores && 16 <= room && room <= 1_048_576);
     RunOptions {
-        cores: number(cell(line, 0), 0),
-        room: number(cell(line, 1), 0),
+        cores,
+        room,
         trace: cell(line, 2) == "traced",
     }
 }
@@ -117,10 +103,10 @@ fn answers<T: Abort + Threads + Wait + Sync>(rt: &T, alloc: Global, line: &str) 
     let mut reader = text_of(cell(line, 3)).as_bytes();
     let mut printed = Vec::new(alloc);
     let mut told = Vec::new(alloc);
-    let status = ran(
+    let status = do_run(
         rt,
         alloc,
-        options_of(line),
+        options_of(rt, line),
         &Open,
         &mut reader,
         &mut printed,
@@ -133,16 +119,19 @@ fn answers<T: Abort + Threads + Wait + Sync>(rt: &T, alloc: Global, line: &str) 
 fn answers_over<S: EpochStore, T: Abort + Threads + Wait + Sync>(
     rt: &T,
     alloc: Global,
-    asked: MachineAsked,
+    machine: MachineAsked,
     line: &str,
 ) {
     let mut printed = Vec::new(alloc);
     let mut told = Vec::new(alloc);
+    let asked = RunAsked {
+        machine,
+        options: options_of(rt, line),
+    };
     let status = ran_over::<S, T>(
         rt,
         alloc,
         asked,
-        options_of(line),
         text_of(cell(line, 3)).as_bytes(),
         &mut printed,
         &mut told,
@@ -211,13 +200,14 @@ fn stops<G: Gate, T: Abort + Threads + Wait + Sync, R: Read, W: Write>(
     writer: &mut W,
     line: &str,
 ) -> u8 {
+    assert!(rt; 1 <= cores);
     let options = RunOptions {
         cores,
         room: 64,
         trace: true,
     };
     let mut told = Vec::new(alloc);
-    let status = ran(rt, alloc, options, gate, reader, writer, &mut told);
+    let status = do_run(rt, alloc, options, gate, reader, writer, &mut told);
     assert!(rt; is_line(told.as_slice(), line));
     status
 }

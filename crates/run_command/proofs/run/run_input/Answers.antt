@@ -11,6 +11,6 @@ returns-in-Ok-clause-outcome g c =
     let old = g.W.Write.contents c.args.writer.now in
     let new = g.W.Write.contents c.run_image.new.writer in
     for_text (g.R.Read.remaining c.args.reader.now) (λ text. image_text text ≡ Ok c.in-Ok.image)
-    (λ text. IsThreadsOutcome caches c.args.asked c.args.options text old new c.run_image.result)
-    (λ text said. of_image (IsMachineOutcome caches c.args.asked c.args.options old new) text c.in-Ok.image old new said (λ fault is. is.1) (λ is. is.1.1) c.run_image.result c.run_image.ensures)
+    (λ text. IsThreadsOutcome caches c.args.asked.machine c.args.asked.options text old new c.run_image.result)
+    (λ text said. of_image (IsMachineOutcome caches c.args.asked.machine c.args.asked.options old new) text c.in-Ok.image old new said (λ fault is. is.1) (λ is. is.1.1) c.run_image.result c.run_image.ensures)
     c.in-Ok.ensures.text
