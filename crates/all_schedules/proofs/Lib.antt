@@ -16,6 +16,7 @@ pub mod Retraces
 pub mod Replays
 pub mod Digits
 pub mod Works
+pub mod Asking
 pub mod Waiting
 pub mod Alls
 pub mod Paces

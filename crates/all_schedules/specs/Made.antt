@@ -17,9 +17,14 @@ use Rattle.homefree.specs.Ending.{NoneStartsAfterCancel}
 use Rattle.homefree.specs.LockView.{loop_of}
 use Rattle.homefree.specs.Missed.{PassesOverNone, IsOfCaches}
 use Rattle.homefree.specs.Retraced.{IsNew}
+use Rattle.all_schedules.specs.declared.loop_on.LoopOn.{LoopOn}
 
 abbrev pub loop_on : LoadedImage → ℕ → ℕ → Loop
 loop_on image cores room = record { image = image; cores = cores; room = room }
+
+-- the loop that is given
+abbrev pub the_loop : LoopOn → Loop
+the_loop on = loop_on on.image.now on.cores on.room
 
 -- a history that turns over a store make: each violation has its cause and is of a kind, no epoch starts once one has been cancelled, over
 -- caches no entry passes over a later epoch that has read in a line which it writes, further stores aside, and the entries are within the room

@@ -1,5 +1,5 @@
 -- What the program answers.
-use Rattle.std.specs.Prelude.{ℕ, ◌+◌, ◌^◌, ◌≤◌, true, List, Option, Some, None, IfSome}
+use Rattle.std.specs.Prelude.{ℕ, ◌+◌, true, List, Option, Some, None}
 use Rattle.rv32_image.specs.ImageText.{longest_image_text}
 use Rattle.rv32_image.specs.Input.{TakesAtMost}
 use Rattle.rv32_image.specs.Image.{LoadedImage}
@@ -26,15 +26,8 @@ use Rattle.all_schedules.specs.Asked.{Asked, asked_in}
 use Rattle.all_schedules.specs.AllSchedules.{AllAnswers}
 use Rattle.all_schedules.specs.Paced.{IsPacedOutcome}
 use Rattle.all_schedules.specs.Replay.{IsReplayOutcome}
-use Rattle.trace_commands.specs.Program.{IsRefused, IsUpTo16, Stream}
+use Rattle.trace_commands.specs.Program.{IsRefused, Stream}
 use Rattle.all_schedules.specs.Told.{IsHead}
-
--- 1 to 16 cores, and at most 65,536 schedules of 1 to 16 turns
-abbrev pub AreTurns : Turns → Type 0
-AreTurns (Given detail cores) = IfSome cores IsUpTo16
-AreTurns (Every cores turns) = IsUpTo16 cores × IsUpTo16 turns × (cores ^ turns ≤ 65536)
-AreTurns (Paced pace cores) = IsUpTo16 cores
-AreTurns (Threaded cores) = IsUpTo16 cores
 
 -- a run on threads that prints its trace
 abbrev pub options_of : Settings → ℕ → RunOptions

@@ -3,13 +3,13 @@ ghost use Rattle.std.specs.Prelude.{◌≡◌, ◌≤◌, ◌+◌, MatchResult};
 ghost use Rattle.rv32_image.specs.Input.{TakesAtMost};
 ghost use Rattle.rv32_image.specs.ImageText.{longest_image_text};
 ghost use Rattle.rv32_image.specs.Reading.{ForText};
-ghost use Rattle.violations.specs.Rule.{IsCoreCount};
-ghost use Rattle.all_schedules.specs.Made.{loop_on};
+ghost use Rattle.all_schedules.specs.Made.{the_loop};
 ghost use Rattle.all_schedules.specs.Settings.{loop_with};
 ghost use Rattle.all_schedules.specs.AllSchedules as spec;
 
+use crate::core_count::CoreCount;
+use crate::loop_on::LoopOn;
 use crate::replay::cause_of;
-use crate::room::Room;
 use crate::schedules::every_schedule;
 use crate::settings::Settings;
 use crate::survey::survey_schedules;
@@ -29,14 +29,13 @@ use violations::EpochStore;
 /// that is written was made before the first byte: after a failed write a prefix of it was written.
 pub fn do_all<S: EpochStore, R: Read, W: Write, E: Write>(
     alloc: Global,
-    cores: u32,
+    cores: CoreCount,
     settings: Settings,
     turns: u32,
     reader: &mut R,
     writer: &mut W,
     errors: &mut E,
 ) -> u8
-    requires cores { 1 ≤ cores }
     ensures outcome { ForText (R.remaining reader.old) (λ text. spec.AllAnswers S.starts S.makes S.view S.waits cores settings turns text
         (record { old = W.contents writer.old; new = W.contents writer.new }) (record { old = E.contents errors.old; new = E.contents errors.new }) result) }
     ensures taken { TakesAtMost (R.remaining reader.old) (R.remaining reader.new) (longest_image_text + 1) }
@@ -50,13 +49,12 @@ pub fn do_all<S: EpochStore, R: Read, W: Write, E: Write>(
 /// All but the line on the error stream.
 fn all_of_input<S: EpochStore, R: Read, W: Write>(
     alloc: Global,
-    cores: u32,
+    cores: CoreCount,
     settings: Settings,
     turns: u32,
     reader: &mut R,
     writer: &mut W,
 ) -> Result<(), Outcome>
-    requires cores { 1 ≤ cores }
     ensures outcome { ForText (R.remaining reader.old) (λ text. MatchResult result
         (λ _. spec.IsWritten S.starts S.makes S.view S.waits cores settings turns text (W.contents writer.old) (W.contents writer.new))
         (spec.IsUnwritten S.starts S.makes S.view S.waits cores settings turns text (W.contents writer.old) (W.contents writer.new))) }
@@ -71,20 +69,25 @@ fn all_of_input<S: EpochStore, R: Read, W: Write>(
 fn all_of_image<S: EpochStore, W: Write>(
     alloc: Global,
     image: Image,
-    cores: u32,
+    cores: CoreCount,
     settings: Settings,
     turns: u32,
     writer: &mut W,
 ) -> Result<(), Outcome>
-    requires cores { 1 ≤ cores }
     ensures { MatchResult result
         (λ _. spec.IsWrittenOf S.starts S.makes S.view S.waits (loop_with image cores settings) turns (W.contents writer.old) (W.contents writer.new))
         (spec.IsUnwrittenOf S.starts S.makes S.view S.waits (loop_with image cores settings) turns (W.contents writer.old) (W.contents writer.new)) }
 {
-    let Some(image) = runnable(image, settings.asked, cores) else {
+    let count = cores.count();
+    let Some(image) = runnable(image, settings.asked, count) else {
         return Err(Outcome::Usage);
     };
-    let printed = match print_all::<S>(alloc, &image, cores, settings.room, turns) {
+    let on = LoopOn {
+        image: &image,
+        cores: count,
+        room: settings.room,
+    };
+    let printed = match print_all::<S>(alloc, &on, turns) {
         Ok(printed) => printed,
         Err(cause) => return Err(Outcome::Stopped(cause)),
     };
@@ -98,20 +101,17 @@ fn all_of_image<S: EpochStore, W: Write>(
 /// The text of the survey of every schedule.
 fn print_all<S: EpochStore>(
     alloc: Global,
-    image: &Image,
-    cores: u32,
-    room: Room,
+    on: &LoopOn<'_>,
     turns: u32,
 ) -> Result<Vec<u8>, CommandStop>
-    requires cores { IsCoreCount image.now cores }
-    ensures { MatchResult result (λ text. spec.IsAll S.starts S.makes S.view S.waits (loop_on image.now cores room) turns text.items)
-        (spec.IsAllStop S.starts S.makes S.view S.waits (loop_on image.now cores room) turns) }
+    ensures { MatchResult result (λ text. spec.IsAll S.starts S.makes S.view S.waits (the_loop on.now) turns text.items)
+        (spec.IsAllStop S.starts S.makes S.view S.waits (the_loop on.now) turns) }
 {
-    let Ok(all) = every_schedule(alloc, cores, turns) else {
+    let Ok(all) = every_schedule(alloc, on.cores, turns) else {
         return Err(CommandStop::NoMemory);
     };
-    match survey_schedules::<S>(alloc, image, cores, room, all.as_slice()) {
-        Ok(survey) => match print_survey(alloc, image, all.as_slice(), &survey) {
+    match survey_schedules::<S>(alloc, on, all.as_slice()) {
+        Ok(survey) => match print_survey(alloc, on.image, all.as_slice(), &survey) {
             Ok(text) => Ok(text),
             Err(AllocError) => Err(CommandStop::NoMemory),
         },

@@ -104,8 +104,7 @@ fn answer<
     writer: &mut W,
     errors: &mut E,
 ) -> u8
-    requires turns { spec.AreTurns turns }
-    requires most { settings.room ≤ 1048576 }
+    requires { settings.room ≤ 1048576 }
     ensures { ForText (R.remaining reader.old) (λ text. spec.TurnsAnswer S.starts S.makes S.view S.waits S.prices S.keeps S.changes (addresses_of (map A.text waits.now)) settings turns text
         (record { old = R.remaining reader.old; new = R.remaining reader.new })
         (record { old = W.contents writer.old; new = W.contents writer.new })
@@ -128,7 +127,7 @@ fn answer<
         }
         Turns::Threaded { cores } => {
             let options = RunOptions {
-                cores,
+                cores: cores.count(),
                 room: settings.room.entries(),
                 trace: true,
             };
@@ -150,7 +149,6 @@ fn pace_waiting<S: PricedStore, A: AsStr, R: Read, W: Write, E: Write>(
     writer: &mut W,
     errors: &mut E,
 ) -> u8
-    requires cores { 1 ≤ asked.cores }
     ensures outcome { ForText (R.remaining reader.old) (λ text.
         Conclusion (IsPacedOutcome S.starts S.makes S.view S.waits S.prices S.keeps (addresses_of (map A.text waits.now)) asked.pace asked.cores asked.settings text (W.contents writer.old) (W.contents writer.new)) (E.contents errors.old) (E.contents errors.new) result) }
     ensures taken { TakesAtMost (R.remaining reader.old) (R.remaining reader.new) (longest_image_text + 1) }

@@ -6,6 +6,7 @@ ghost use Rattle.homefree.specs.Counted.{IsNoMore};
 ghost use Rattle.homefree.specs.Driven.{driver};
 ghost use Rattle.all_schedules.specs.Drawn as spec;
 
+use crate::loop_on::LoopOn;
 use homefree::{Answer, Book, TurnFault, step};
 use rand_core::SeedableRng;
 use rand_core::utils::NextWord;
@@ -24,24 +25,23 @@ const MOST_TURNS: u32 = 8_388_608;
 /// `NoMemory` may also be that there was none for the schedule.
 pub fn drive_drawn<S: EpochStore>(
     book: &mut Book<S>,
-    cores: u32,
+    on: &LoopOn<'_>,
     seed: u64,
     schedule: &mut Vec<u32>,
     shares: &mut Shares,
 ) -> Result<Option<End>, TurnFault>
-    requires least { 1 ≤ cores }
-    requires cores { book.old.cores ≡ cores }
+    requires cores { book.old.cores ≡ on.now.cores }
     requires schedule { schedule.old.items ≡ [] }
     requires shares { IsNoMore shares.old book.old.totals }
     ensures drives { result ≢ Err TurnFault.NoMemory
-        → spec.DrivesDrawn S.makes S.view S.waits cores seed (driver book.old shares.old) schedule.new.items result (driver book.new shares.new) }
+        → spec.DrivesDrawn S.makes S.view S.waits on.now.cores seed (driver book.old shares.old) schedule.new.items result (driver book.new shares.new) }
     ensures same { IsOfSameLoop book.old book.new }
     ensures shares { IsNoMore shares.new book.new.totals }
 {
     let mut generator = SplitMix64::seed_from_u64(seed);
     let mut held = [None; MAX_CORES];
     for _taken in 0..MOST_TURNS {
-        let core = draw(&mut generator, cores);
+        let core = draw(&mut generator, on.cores);
         let Ok(()) = schedule.push(core) else {
             return Err(TurnFault::NoMemory);
         };

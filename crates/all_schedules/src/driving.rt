@@ -1,9 +1,8 @@
 //! What one schedule makes.
 ghost use Rattle.std.specs.Prelude.{◌≡◌, ◌<◌, All, IfOk, IfErr};
-ghost use Rattle.violations.specs.Rule.{IsCoreCount};
 ghost use Rattle.all_schedules.specs.Made as spec;
 
-use crate::room::Room;
+use crate::loop_on::LoopOn;
 use homefree::{Book, TurnFault, drive};
 use run_ledger::Shares;
 use rv32_exec::Image;
@@ -16,17 +15,16 @@ use violations::EpochStore;
 /// `HistoryFull`: a turn of it found too few free entries. `NoMemory`: memory ran out.
 pub fn drive_schedule<S: EpochStore>(
     alloc: Global,
-    image: &Image,
-    cores: u32,
-    room: Room,
+    on: &LoopOn<'_>,
     schedule: &[u32],
 ) -> Result<Book<S>, TurnFault>
-    requires cores { IsCoreCount image.now cores }
-    requires schedule { All (λ core. core < cores) schedule.now }
-    ensures made { IfOk result (λ book. spec.IsMade S.starts S.makes S.view S.waits (spec.loop_on image.now cores room) schedule.now book) }
-    ensures fault { IfErr result (spec.IsFault S.starts S.makes S.view S.waits (spec.loop_on image.now cores room) schedule.now) }
+    requires schedule { All (λ core. core < on.now.cores) schedule.now }
+    ensures made { IfOk result (λ book. spec.IsMade S.starts S.makes S.view S.waits (spec.the_loop on.now) schedule.now book) }
+    ensures fault { IfErr result (spec.IsFault S.starts S.makes S.view S.waits (spec.the_loop on.now) schedule.now) }
 {
-    let made: Result<(Book<S>, Shares), _> = Book::new(alloc, image, cores, room.entries());
+    let cores = on.cores;
+    let room = on.room.entries();
+    let made: Result<(Book<S>, Shares), _> = Book::new(alloc, on.image, cores, room);
     let Ok((mut book, mut shares)) = made else {
         return Err(TurnFault::NoMemory);
     };

@@ -1,11 +1,10 @@
 //! What the run at even speed makes.
 ghost use Rattle.std.specs.Prelude.{IfOk, IfErr};
-ghost use Rattle.violations.specs.Rule.{IsCoreCount};
 ghost use Rattle.even_speed.specs.Even.{pacing_of};
-ghost use Rattle.all_schedules.specs.Made.{loop_on};
+ghost use Rattle.all_schedules.specs.Made.{the_loop};
 ghost use Rattle.all_schedules.specs.Evenly as spec;
 
-use crate::room::Room;
+use crate::loop_on::LoopOn;
 use even_speed::{Ran, Terms, drive_evenly};
 use homefree::{Book, TurnFault};
 use run_ledger::Shares;
@@ -30,16 +29,15 @@ pub struct EvenRun<S: EpochStore> {
 /// `HistoryFull`: a turn found too few free entries. `NoMemory`: memory ran out.
 pub fn run_evenly<S: PricedStore>(
     alloc: Global,
-    image: &Image,
-    cores: u32,
-    room: Room,
+    on: &LoopOn<'_>,
     terms: &Terms,
 ) -> Result<EvenRun<S>, TurnFault>
-    requires cores { IsCoreCount image.now cores }
-    ensures made { IfOk result (λ run. spec.IsEvenRun S.starts S.makes S.view S.waits S.keeps (pacing_of S.prices terms.now) (loop_on image.now cores room) run.schedule.items run.ran run.book) }
-    ensures fault { IfErr result (spec.IsEvenFault S.starts S.makes S.view S.waits S.keeps (pacing_of S.prices terms.now) (loop_on image.now cores room)) }
+    ensures made { IfOk result (λ run. spec.IsEvenRun S.starts S.makes S.view S.waits S.keeps (pacing_of S.prices terms.now) (the_loop on.now) run.schedule.items run.ran run.book) }
+    ensures fault { IfErr result (spec.IsEvenFault S.starts S.makes S.view S.waits S.keeps (pacing_of S.prices terms.now) (the_loop on.now)) }
 {
-    let made: Result<(Book<S>, Shares), _> = Book::new(alloc, image, cores, room.entries());
+    let cores = on.cores;
+    let room = on.room.entries();
+    let made: Result<(Book<S>, Shares), _> = Book::new(alloc, on.image, cores, room);
     let Ok((mut book, mut shares)) = made else {
         return Err(TurnFault::NoMemory);
     };
@@ -47,7 +45,7 @@ pub fn run_evenly<S: PricedStore>(
     let driven = drive_evenly(
         alloc,
         &mut book,
-        image,
+        on.image,
         cores,
         terms,
         &mut schedule,

@@ -4,18 +4,19 @@ ghost use Rattle.rv32_image.specs.Input.{TakesAtMost};
 ghost use Rattle.rv32_image.specs.ImageText.{longest_image_text};
 ghost use Rattle.rv32_image.specs.Reading.{ForText};
 ghost use Rattle.trace_commands.specs.Outcome.{Conclusion};
-ghost use Rattle.violations.specs.Rule.{IsCoreCount};
+ghost use Rattle.homefree.specs.LockView.{loop_of};
 ghost use Rattle.even_speed.specs.Even.{pacing_of};
-ghost use Rattle.all_schedules.specs.Made.{loop_on};
+ghost use Rattle.all_schedules.specs.Made.{the_loop};
 ghost use Rattle.all_schedules.specs.Settings.{loop_with};
 ghost use Rattle.all_schedules.specs.SurveyText.{turns_line};
 ghost use Rattle.all_schedules.specs.Shown.{IsShown};
 ghost use Rattle.all_schedules.specs.Paced as spec;
 
+use crate::core_count::CoreCount;
 use crate::even::run_evenly;
 use crate::holds::{holds_at, holds_in_order};
+use crate::loop_on::LoopOn;
 use crate::print::print_book;
-use crate::room::Room;
 use crate::seeded::run_seeded;
 use crate::settings::Settings;
 use crate::text::push_turns;
@@ -45,13 +46,12 @@ pub enum Pace {
 #[derive(Clone, Copy)]
 pub struct PaceAsked {
     pub pace: Pace,
-    /// At least 1.
-    pub cores: u32,
+    pub cores: CoreCount,
     pub settings: Settings,
 }
 
 /// Runs the image that the reader gives by this pace, at even speed with loads at these addresses of code that wait, over a fresh store, and
-/// writes the line of its turns, and below it what `do_replay` writes of them. The cores are at least 1.
+/// writes the line of its turns, and below it what `do_replay` writes of them.
 ///
 /// The status is 0 where the loop is done or exited, or the most turns were drawn before; 1 where an epoch faulted; 2 where the image,
 /// the machine or the number of cores is refused; 3 where the history is full, memory ran out or a write failed. With 2 and 3 one line on the error
@@ -64,7 +64,6 @@ pub fn do_paced<S: PricedStore, R: Read, W: Write, E: Write>(
     writer: &mut W,
     errors: &mut E,
 ) -> u8
-    requires cores { 1 ≤ asked.cores }
     ensures outcome { ForText (R.remaining reader.old) (λ text.
         Conclusion (spec.IsPacedOutcome S.starts S.makes S.view S.waits S.prices S.keeps addresses.now asked.pace asked.cores asked.settings text (W.contents writer.old) (W.contents writer.new)) (E.contents errors.old) (E.contents errors.new) result) }
     ensures taken { TakesAtMost (R.remaining reader.old) (R.remaining reader.new) (longest_image_text + 1) }
@@ -80,7 +79,6 @@ fn paced_input<S: PricedStore, R: Read, W: Write>(
     reader: &mut R,
     writer: &mut W,
 ) -> Outcome
-    requires cores { 1 ≤ asked.cores }
     ensures outcome { ForText (R.remaining reader.old) (λ text.
         spec.IsPacedOutcome S.starts S.makes S.view S.waits S.prices S.keeps addresses.now asked.pace asked.cores asked.settings text (W.contents writer.old) (W.contents writer.new) result) }
     ensures taken { TakesAtMost (R.remaining reader.old) (R.remaining reader.new) (longest_image_text + 1) }
@@ -101,24 +99,22 @@ fn paced_image<S: PricedStore, W: Write>(
     addresses: &[u32],
     pace: Pace,
     image: Image,
-    cores: u32,
+    cores: CoreCount,
     settings: Settings,
     writer: &mut W,
 ) -> Outcome
-    requires cores { 1 ≤ cores }
     ensures { spec.IsPacedOf S.starts S.makes S.view S.waits S.prices S.keeps addresses.now pace (loop_with image cores settings) (W.contents writer.old) (W.contents writer.new) result }
 {
-    let Some(image) = runnable(image, settings.asked, cores) else {
+    let count = cores.count();
+    let Some(image) = runnable(image, settings.asked, count) else {
         return Outcome::Usage;
     };
-    let (outcome, printed) = match show_paced::<S>(
-        alloc,
-        addresses,
-        pace,
-        &image,
-        cores,
-        settings.room,
-    ) {
+    let on = LoopOn {
+        image: &image,
+        cores: count,
+        room: settings.room,
+    };
+    let (outcome, printed) = match show_paced::<S>(alloc, addresses, pace, &on) {
         Ok(shown) => shown,
         Err(cause) => return Outcome::Stopped(cause),
     };
@@ -134,18 +130,15 @@ fn show_paced<S: PricedStore>(
     alloc: Global,
     addresses: &[u32],
     pace: Pace,
-    image: &Image,
-    cores: u32,
-    room: Room,
+    on: &LoopOn<'_>,
 ) -> Result<(Outcome, Vec<u8>), CommandStop>
-    requires cores { IsCoreCount image.now cores }
-    ensures { MatchResult result (λ shown. spec.IsPacedText S.starts S.makes S.view S.waits S.prices S.keeps addresses.now pace (loop_on image.now cores room) shown.0 shown.1.items)
-        (spec.IsPacedStop S.starts S.makes S.view S.waits S.prices S.keeps addresses.now pace (loop_on image.now cores room)) }
+    ensures { MatchResult result (λ shown. spec.IsPacedText S.starts S.makes S.view S.waits S.prices S.keeps addresses.now pace (the_loop on.now) shown.0 shown.1.items)
+        (spec.IsPacedStop S.starts S.makes S.view S.waits S.prices S.keeps addresses.now pace (the_loop on.now)) }
 {
     match pace {
-        Pace::Even(costs) => show_even::<S>(alloc, addresses, costs, image, cores, room),
-        Pace::Held(pieces, costs) => show_held::<S>(alloc, pieces, costs, image, cores, room),
-        Pace::Seeded(seed) => show_seeded::<S>(alloc, seed, image, cores, room),
+        Pace::Even(costs) => show_even::<S>(alloc, addresses, costs, on),
+        Pace::Held(pieces, costs) => show_held::<S>(alloc, pieces, costs, on),
+        Pace::Seeded(seed) => show_seeded::<S>(alloc, seed, on),
     }
 }
 
@@ -154,13 +147,10 @@ fn show_even<S: PricedStore>(
     alloc: Global,
     addresses: &[u32],
     costs: Option<Costs>,
-    image: &Image,
-    cores: u32,
-    room: Room,
+    on: &LoopOn<'_>,
 ) -> Result<(Outcome, Vec<u8>), CommandStop>
-    requires cores { IsCoreCount image.now cores }
-    ensures { MatchResult result (λ shown. spec.IsPacedText S.starts S.makes S.view S.waits S.prices S.keeps addresses.now (Pace.Even costs) (loop_on image.now cores room) shown.0 shown.1.items)
-        (spec.IsPacedStop S.starts S.makes S.view S.waits S.prices S.keeps addresses.now (Pace.Even costs) (loop_on image.now cores room)) }
+    ensures { MatchResult result (λ shown. spec.IsPacedText S.starts S.makes S.view S.waits S.prices S.keeps addresses.now (Pace.Even costs) (the_loop on.now) shown.0 shown.1.items)
+        (spec.IsPacedStop S.starts S.makes S.view S.waits S.prices S.keeps addresses.now (Pace.Even costs) (the_loop on.now)) }
 {
     let Ok(holds) = holds_at(alloc, addresses) else {
         return Err(CommandStop::NoMemory);
@@ -170,7 +160,7 @@ fn show_even<S: PricedStore>(
         queues: addresses.is_empty(),
         costs,
     };
-    show_run::<S>(alloc, &terms, image, cores, room)
+    show_run::<S>(alloc, &terms, on)
 }
 
 /// Runs at even speed, where loads wait for what earlier epochs store in order, and shows what the turns made.
@@ -178,15 +168,12 @@ fn show_held<S: PricedStore>(
     alloc: Global,
     pieces: Pieces,
     costs: Option<Costs>,
-    image: &Image,
-    cores: u32,
-    room: Room,
+    on: &LoopOn<'_>,
 ) -> Result<(Outcome, Vec<u8>), CommandStop>
-    requires cores { IsCoreCount image.now cores }
-    ensures { (addresses : List ℕ) → MatchResult result (λ shown. spec.IsPacedText S.starts S.makes S.view S.waits S.prices S.keeps addresses (Pace.Held pieces costs) (loop_on image.now cores room) shown.0 shown.1.items)
-        (spec.IsPacedStop S.starts S.makes S.view S.waits S.prices S.keeps addresses (Pace.Held pieces costs) (loop_on image.now cores room)) }
+    ensures { (addresses : List ℕ) → MatchResult result (λ shown. spec.IsPacedText S.starts S.makes S.view S.waits S.prices S.keeps addresses (Pace.Held pieces costs) (the_loop on.now) shown.0 shown.1.items)
+        (spec.IsPacedStop S.starts S.makes S.view S.waits S.prices S.keeps addresses (Pace.Held pieces costs) (the_loop on.now)) }
 {
-    let Ok(holds) = holds_in_order(alloc, image, pieces) else {
+    let Ok(holds) = holds_in_order(alloc, on.image, pieces) else {
         return Err(CommandStop::NoMemory);
     };
     let terms = Terms {
@@ -194,23 +181,20 @@ fn show_held<S: PricedStore>(
         queues: false,
         costs,
     };
-    show_run::<S>(alloc, &terms, image, cores, room)
+    show_run::<S>(alloc, &terms, on)
 }
 
 /// Runs at even speed, on these terms, and shows what the turns made.
 fn show_run<S: PricedStore>(
     alloc: Global,
     terms: &Terms,
-    image: &Image,
-    cores: u32,
-    room: Room,
+    on: &LoopOn<'_>,
 ) -> Result<(Outcome, Vec<u8>), CommandStop>
-    requires cores { IsCoreCount image.now cores }
-    ensures { MatchResult result (λ shown. spec.IsEvenText S.starts S.makes S.view S.waits S.keeps (pacing_of S.prices terms.now) (loop_on image.now cores room) shown.0 shown.1.items)
-        (spec.IsEvenStop S.starts S.makes S.view S.waits S.keeps (pacing_of S.prices terms.now) (loop_on image.now cores room)) }
+    ensures { MatchResult result (λ shown. spec.IsEvenText S.starts S.makes S.view S.waits S.keeps (pacing_of S.prices terms.now) (the_loop on.now) shown.0 shown.1.items)
+        (spec.IsEvenStop S.starts S.makes S.view S.waits S.keeps (pacing_of S.prices terms.now) (the_loop on.now)) }
 {
-    match run_evenly::<S>(alloc, image, cores, room, terms) {
-        Ok(made) => match print_turns(alloc, image, cores, made.schedule.as_slice(), &made.book) {
+    match run_evenly::<S>(alloc, on, terms) {
+        Ok(made) => match print_turns(alloc, on, made.schedule.as_slice(), &made.book) {
             Ok(shown) => Ok(shown),
             Err(AllocError) => Err(CommandStop::NoMemory),
         },
@@ -223,16 +207,13 @@ fn show_run<S: PricedStore>(
 fn show_seeded<S: PricedStore>(
     alloc: Global,
     seed: u64,
-    image: &Image,
-    cores: u32,
-    room: Room,
+    on: &LoopOn<'_>,
 ) -> Result<(Outcome, Vec<u8>), CommandStop>
-    requires cores { IsCoreCount image.now cores }
-    ensures { (addresses : List ℕ) → MatchResult result (λ shown. spec.IsPacedText S.starts S.makes S.view S.waits S.prices S.keeps addresses (Pace.Seeded seed) (loop_on image.now cores room) shown.0 shown.1.items)
-        (spec.IsPacedStop S.starts S.makes S.view S.waits S.prices S.keeps addresses (Pace.Seeded seed) (loop_on image.now cores room)) }
+    ensures { (addresses : List ℕ) → MatchResult result (λ shown. spec.IsPacedText S.starts S.makes S.view S.waits S.prices S.keeps addresses (Pace.Seeded seed) (the_loop on.now) shown.0 shown.1.items)
+        (spec.IsPacedStop S.starts S.makes S.view S.waits S.prices S.keeps addresses (Pace.Seeded seed) (the_loop on.now)) }
 {
-    match run_seeded::<S>(alloc, image, cores, room, seed) {
-        Ok(made) => match print_turns(alloc, image, cores, made.schedule.as_slice(), &made.book) {
+    match run_seeded::<S>(alloc, on, seed) {
+        Ok(made) => match print_turns(alloc, on, made.schedule.as_slice(), &made.book) {
             Ok(shown) => Ok(shown),
             Err(AllocError) => Err(CommandStop::NoMemory),
         },
@@ -244,17 +225,15 @@ fn show_seeded<S: PricedStore>(
 /// The line of these turns, and below it what is printed of the book.
 fn print_turns<S: EpochStore>(
     alloc: Global,
-    image: &Image,
-    cores: u32,
+    on: &LoopOn<'_>,
     schedule: &[u32],
     book: &Book<S>,
 ) -> Result<(Outcome, Vec<u8>), AllocError>
-    requires image { book.now.image ≡ image.now }
-    requires cores { book.now.cores ≡ cores }
-    ensures { IfOk result (λ shown. (below : List ℕ) × IsShown image.now cores book.now.history shown.0 below
+    requires same { loop_of book.now ≡ the_loop on.now }
+    ensures { IfOk result (λ shown. (below : List ℕ) × IsShown on.now.image.now on.now.cores book.now.history shown.0 below
         × (shown.1.items ≡ turns_line schedule.now ++ below)) }
 {
-    let shown = print_book(alloc, image, cores, book)?;
+    let shown = print_book(alloc, on, book)?;
     let mut text = Vec::new(alloc);
     push_turns(&mut text, schedule)?;
     text.extend_from_slice(shown.1.as_slice())?;

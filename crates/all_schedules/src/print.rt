@@ -2,8 +2,11 @@
 ghost use Rattle.std.specs.Prelude.{◌≡◌, IfOk};
 ghost use Rattle.spec_history.specs.FlatState.{FlatState};
 ghost use Rattle.homefree.specs.BookView.{ReplaysTo};
+ghost use Rattle.homefree.specs.LockView.{loop_of};
+ghost use Rattle.all_schedules.specs.Made.{the_loop};
 ghost use Rattle.all_schedules.specs.Shown as spec;
 
+use crate::loop_on::LoopOn;
 use homefree::Book;
 use run_command::with_history;
 use rv32_image::Image;
@@ -16,17 +19,15 @@ use violations::EpochStore;
 /// `AllocError`: memory ran out.
 pub fn print_book<S: EpochStore>(
     alloc: Global,
-    image: &Image,
-    cores: u32,
+    on: &LoopOn<'_>,
     book: &Book<S>,
 ) -> Result<(Outcome, Vec<u8>), AllocError>
-    requires image { book.now.image ≡ image.now }
-    requires cores { book.now.cores ≡ cores }
-    ensures { IfOk result (λ shown. spec.IsShown image.now cores book.now.history shown.0 shown.1.items) }
+    requires same { loop_of book.now ≡ the_loop on.now }
+    ensures { IfOk result (λ shown. spec.IsShown on.now.image.now on.now.cores book.now.history shown.0 shown.1.items) }
 {
     book.look();
-    let shown = report_of(alloc, image, book)?;
-    let text = with_history(alloc, shown.1, cores, book.totals(), book.history())?;
+    let shown = report_of(alloc, on.image, book)?;
+    let text = with_history(alloc, shown.1, on.cores, book.totals(), book.history())?;
     Ok((shown.0, text))
 }
 

@@ -4,15 +4,15 @@ ghost use Rattle.rv32_image.specs.Input.{TakesAtMost};
 ghost use Rattle.rv32_image.specs.Reading.{ForText};
 ghost use Rattle.trace_text.specs.TraceText.{longest_trace_text};
 ghost use Rattle.trace_commands.specs.Outcome.{Conclusion};
-ghost use Rattle.violations.specs.Rule.{IsCoreCount};
-ghost use Rattle.all_schedules.specs.Made.{AreMade, IsFault, loop_on};
+ghost use Rattle.all_schedules.specs.Made.{AreMade, IsFault, the_loop};
 ghost use Rattle.all_schedules.specs.Traced.{has_trace};
 ghost use Rattle.all_schedules.specs.Replay as spec;
 ghost use Rattle.all_schedules.specs.Told.{IsHead};
 
+use crate::core_count::CoreCount;
 use crate::detail::Detail;
 use crate::driving::drive_schedule;
-use crate::room::Room;
+use crate::loop_on::LoopOn;
 use crate::settings::Settings;
 use crate::told::{show_told, tell_turns};
 use crate::traced::{begins_trace, retrace};
@@ -37,13 +37,12 @@ use turn_steps::ShownStore;
 pub fn do_replay<S: ShownStore, R: Read, W: Write, E: Write>(
     alloc: Global,
     detail: Detail,
-    cores: Option<u32>,
+    cores: Option<CoreCount>,
     settings: Settings,
     reader: &mut R,
     writer: &mut W,
     errors: &mut E,
 ) -> u8
-    requires cores { IfSome cores (λ k. 1 ≤ k) }
     ensures outcome { ForText (R.remaining reader.old) (λ text.
         Conclusion (spec.IsReplayOutcome S.starts S.makes S.view S.waits (IsHead S.starts S.makes S.view S.waits S.changes detail) cores settings text (W.contents writer.old) (W.contents writer.new)) (E.contents errors.old) (E.contents errors.new) result) }
     ensures taken { TakesAtMost (R.remaining reader.old) (R.remaining reader.new) (longest_trace_text + 1) }
@@ -55,12 +54,11 @@ pub fn do_replay<S: ShownStore, R: Read, W: Write, E: Write>(
 fn replay_input<S: ShownStore, R: Read, W: Write>(
     alloc: Global,
     detail: Detail,
-    cores: Option<u32>,
+    cores: Option<CoreCount>,
     settings: Settings,
     reader: &mut R,
     writer: &mut W,
 ) -> Outcome
-    requires cores { IfSome cores (λ k. 1 ≤ k) }
     ensures outcome { ForText (R.remaining reader.old) (λ text.
         spec.IsReplayOutcome S.starts S.makes S.view S.waits (IsHead S.starts S.makes S.view S.waits S.changes detail) cores settings text (W.contents writer.old) (W.contents writer.new) result) }
     ensures taken { TakesAtMost (R.remaining reader.old) (R.remaining reader.new) (longest_trace_text + 1) }
@@ -75,12 +73,11 @@ fn replay_input<S: ShownStore, R: Read, W: Write>(
 fn replay_text<S: ShownStore, W: Write>(
     alloc: Global,
     detail: Detail,
-    cores: Option<u32>,
+    cores: Option<CoreCount>,
     settings: Settings,
     text: &[u8],
     writer: &mut W,
 ) -> Outcome
-    requires cores { IfSome cores (λ k. 1 ≤ k) }
     requires short { length text.now ≤ longest_trace_text }
     ensures { spec.IsReplayOutcome S.starts S.makes S.view S.waits (IsHead S.starts S.makes S.view S.waits S.changes detail) cores settings text.now (W.contents writer.old) (W.contents writer.new) result }
 {
@@ -97,12 +94,11 @@ fn replay_text<S: ShownStore, W: Write>(
 fn replay_of<S: ShownStore, W: Write>(
     alloc: Global,
     detail: Detail,
-    cores: u32,
+    cores: CoreCount,
     settings: Settings,
     text: &[u8],
     writer: &mut W,
 ) -> Outcome
-    requires cores { 1 ≤ cores }
     requires short { length text.now ≤ longest_trace_text }
     ensures { spec.IsLinesOutcome S.starts S.makes S.view S.waits (IsHead S.starts S.makes S.view S.waits S.changes detail) cores settings text.now (W.contents writer.old) (W.contents writer.new) result }
 {
@@ -111,23 +107,21 @@ fn replay_of<S: ShownStore, W: Write>(
         Ok(image) => image,
         Err(fault) => return Outcome::of_fault(fault),
     };
-    let image = match runnable(image, settings.asked, cores) {
+    let count = cores.count();
+    let image = match runnable(image, settings.asked, count) {
         Some(image) => image,
         None => return Outcome::Usage,
     };
-    let schedule = match read_turns(alloc, cores, parts.below) {
+    let schedule = match read_turns(alloc, count, parts.below) {
         Ok(schedule) => schedule,
         Err(fault) => return Outcome::of_turns_fault(fault),
     };
-    replay_turns::<S, W>(
-        alloc,
-        detail,
-        &image,
-        cores,
-        settings.room,
-        schedule.as_slice(),
-        writer,
-    )
+    let on = LoopOn {
+        image: &image,
+        cores: count,
+        room: settings.room,
+    };
+    replay_turns::<S, W>(alloc, detail, &on, schedule.as_slice(), writer)
 }
 
 /// Takes the turns of a schedule, and writes what they made. Where each of them is to be told, they are taken twice, so that nothing is
@@ -135,23 +129,20 @@ fn replay_of<S: ShownStore, W: Write>(
 fn replay_turns<S: ShownStore, W: Write>(
     alloc: Global,
     detail: Detail,
-    image: &Image,
-    cores: u32,
-    room: Room,
+    on: &LoopOn<'_>,
     schedule: &[u32],
     writer: &mut W,
 ) -> Outcome
-    requires cores { IsCoreCount image.now cores }
-    requires schedule { All (λ core. core < cores) schedule.now }
-    ensures { spec.IsTurnsOutcome S.starts S.makes S.view S.waits (IsHead S.starts S.makes S.view S.waits S.changes detail) (loop_on image.now cores room) schedule.now (W.contents writer.old) (W.contents writer.new) result }
+    requires schedule { All (λ core. core < on.now.cores) schedule.now }
+    ensures { spec.IsTurnsOutcome S.starts S.makes S.view S.waits (IsHead S.starts S.makes S.view S.waits S.changes detail) (the_loop on.now) schedule.now (W.contents writer.old) (W.contents writer.new) result }
 {
     match detail {
-        Detail::Whole => match drive_schedule::<S>(alloc, image, cores, room, schedule) {
-            Ok(book) => show_told(alloc, image, cores, &book, Vec::new(alloc), true, writer),
+        Detail::Whole => match drive_schedule::<S>(alloc, on, schedule) {
+            Ok(book) => show_told(alloc, on, &book, Vec::new(alloc), true, writer),
             Err(fault) => Outcome::Stopped(cause_of(fault)),
         },
-        Detail::Steps => match check_turns::<S>(alloc, image, cores, room, schedule) {
-            Ok(()) => tell_turns::<S, W>(alloc, image, cores, room, schedule, writer),
+        Detail::Steps => match check_turns::<S>(alloc, on, schedule) {
+            Ok(()) => tell_turns::<S, W>(alloc, on, schedule, writer),
             Err(fault) => Outcome::Stopped(cause_of(fault)),
         },
     }
@@ -160,17 +151,14 @@ fn replay_turns<S: ShownStore, W: Write>(
 /// Takes the turns of a schedule, and answers whether they make a history.
 fn check_turns<S: ShownStore>(
     alloc: Global,
-    image: &Image,
-    cores: u32,
-    room: Room,
+    on: &LoopOn<'_>,
     schedule: &[u32],
 ) -> Result<(), TurnFault>
-    requires cores { IsCoreCount image.now cores }
-    requires schedule { All (λ core. core < cores) schedule.now }
-    ensures made { IfOk result (λ _. AreMade S.starts S.makes S.view S.waits (loop_on image.now cores room) schedule.now) }
-    ensures fault { IfErr result (IsFault S.starts S.makes S.view S.waits (loop_on image.now cores room) schedule.now) }
+    requires schedule { All (λ core. core < on.now.cores) schedule.now }
+    ensures made { IfOk result (λ _. AreMade S.starts S.makes S.view S.waits (the_loop on.now) schedule.now) }
+    ensures fault { IfErr result (IsFault S.starts S.makes S.view S.waits (the_loop on.now) schedule.now) }
 {
-    match drive_schedule::<S>(alloc, image, cores, room, schedule) {
+    match drive_schedule::<S>(alloc, on, schedule) {
         Ok(_) => Ok(()),
         Err(fault) => Err(fault),
     }

@@ -1,11 +1,10 @@
 //! What the schedule makes that a seed draws.
 ghost use Rattle.std.specs.Prelude.{IfOk, IfErr};
-ghost use Rattle.violations.specs.Rule.{IsCoreCount};
-ghost use Rattle.all_schedules.specs.Made.{loop_on};
+ghost use Rattle.all_schedules.specs.Made.{the_loop};
 ghost use Rattle.all_schedules.specs.Drawn as spec;
 
 use crate::drawing::drive_drawn;
-use crate::room::Room;
+use crate::loop_on::LoopOn;
 use homefree::{Book, TurnFault};
 use run_ledger::Shares;
 use rv32_exec::Image;
@@ -27,21 +26,20 @@ pub struct SeededRun<S: EpochStore> {
 /// `HistoryFull`: a turn found too few free entries. `NoMemory`: memory ran out.
 pub fn run_seeded<S: EpochStore>(
     alloc: Global,
-    image: &Image,
-    cores: u32,
-    room: Room,
+    on: &LoopOn<'_>,
     seed: u64,
 ) -> Result<SeededRun<S>, TurnFault>
-    requires cores { IsCoreCount image.now cores }
-    ensures made { IfOk result (λ run. spec.IsDrawnRun S.starts S.makes S.view S.waits (loop_on image.now cores room) seed run.schedule.items run.book) }
-    ensures fault { IfErr result (spec.IsDrawnFault S.starts S.makes S.view S.waits (loop_on image.now cores room) seed) }
+    ensures made { IfOk result (λ run. spec.IsDrawnRun S.starts S.makes S.view S.waits (the_loop on.now) seed run.schedule.items run.book) }
+    ensures fault { IfErr result (spec.IsDrawnFault S.starts S.makes S.view S.waits (the_loop on.now) seed) }
 {
-    let made: Result<(Book<S>, Shares), _> = Book::new(alloc, image, cores, room.entries());
+    let cores = on.cores;
+    let room = on.room.entries();
+    let made: Result<(Book<S>, Shares), _> = Book::new(alloc, on.image, cores, room);
     let Ok((mut book, mut shares)) = made else {
         return Err(TurnFault::NoMemory);
     };
     let mut schedule = Vec::new(alloc);
-    let driven = drive_drawn(&mut book, cores, seed, &mut schedule, &mut shares);
+    let driven = drive_drawn(&mut book, on, seed, &mut schedule, &mut shares);
     book.look();
     match driven {
         Ok(_) => Ok(SeededRun { book, schedule }),

@@ -1,26 +1,26 @@
 //! Whether the machines that stores ask for can run an image.
-ghost use Rattle.std.specs.Prelude.{◌≡◌, ◌≤◌, true, IfOk, MatchResult, Some, map};
+ghost use Rattle.std.specs.Prelude.{◌≡◌, true, IfOk, MatchResult, Some, map};
 ghost use Rattle.std.specs.List.{list_all};
 ghost use Rattle.trace_commands.specs.Stores.{names_store, store_named};
 ghost use Rattle.run_command.specs.Runnable.{IsRunnable};
 ghost use Rattle.all_schedules.specs.Stores as spec;
 
+use crate::core_count::CoreCount;
 use run_command::runnable;
 use rv32_image::Image;
 use std::alloc::{AllocError, Global};
 use std::convert::AsStr;
 use trace_commands::{CommandStop, Outcome, Store, store_named};
 
-/// Whether the machine of each store that these words name can run the image on so many cores, which are at least 1.
+/// Whether the machine of each store that these words name can run the image on so many cores.
 ///
 /// `Usage`: one can't. `Stopped`: memory ran out.
 pub fn check_stores<S: AsStr>(
     alloc: Global,
     image: &Image,
-    cores: u32,
+    cores: CoreCount,
     words: &[S],
 ) -> Result<(), Outcome>
-    requires cores { 1 ≤ cores }
     requires stores { list_all names_store (map S.text words.now) ≡ true }
     ensures { MatchResult result (λ _. spec.RunsOnAll image.now cores (map S.text words.now))
         (spec.IsStop (spec.HasRefused image.now cores (map S.text words.now))) }
@@ -32,8 +32,7 @@ pub fn check_stores<S: AsStr>(
 }
 
 /// So of the store that this word names.
-fn check_store(alloc: Global, image: &Image, cores: u32, word: &str) -> Result<(), Outcome>
-    requires cores { 1 ≤ cores }
+fn check_store(alloc: Global, image: &Image, cores: CoreCount, word: &str) -> Result<(), Outcome>
     requires store { names_store word.now ≡ true }
     ensures { MatchResult result (λ _. spec.RunsOn image.now cores (store_named word.now))
         (spec.IsStop (spec.IsRefused image.now cores (store_named word.now))) }
@@ -44,7 +43,7 @@ fn check_store(alloc: Global, image: &Image, cores: u32, word: &str) -> Result<(
     let Ok(image) = image.copy(alloc) else {
         return Err(Outcome::Stopped(CommandStop::NoMemory));
     };
-    match runnable(image, store.asked(), cores) {
+    match runnable(image, store.asked(), cores.count()) {
         Some(_) => Ok(()),
         None => Err(Outcome::Usage),
     }
@@ -56,7 +55,7 @@ fn check_store(alloc: Global, image: &Image, cores: u32, word: &str) -> Result<(
 pub fn store_on(
     alloc: Global,
     image: &Image,
-    cores: u32,
+    cores: CoreCount,
     word: &str,
 ) -> Result<(Store, Image), AllocError>
     requires { spec.RunsOn image.now cores (store_named word.now) }

@@ -1,13 +1,12 @@
 //! What schedules come to together.
 ghost use Rattle.std.specs.Prelude.{◌≡◌, ◌<◌, ◌^◌, All, IfOk, IfErr, OnOk};
-ghost use Rattle.violations.specs.Rule.{IsCoreCount};
 ghost use Rattle.all_schedules.specs.Made as made_spec;
 ghost use Rattle.all_schedules.specs.Schedules.{lists_of};
 ghost use Rattle.all_schedules.specs.Survey as spec;
 ghost use Rattle.all_schedules.specs.Adding as inside;
 
 use crate::driving::drive_schedule;
-use crate::room::Room;
+use crate::loop_on::LoopOn;
 use homefree::{Book, TurnFault};
 use rv32_exec::Image;
 use std::alloc::{AllocError, Global};
@@ -42,15 +41,12 @@ pub struct Survey {
 /// `HistoryFull`: a turn of one of them found too few free entries. `NoMemory`: memory ran out.
 pub fn survey_schedules<S: EpochStore>(
     alloc: Global,
-    image: &Image,
-    cores: u32,
-    room: Room,
+    on: &LoopOn<'_>,
     schedules: &[Vec<u32>],
 ) -> Result<Survey, TurnFault>
-    requires cores { IsCoreCount image.now cores }
-    requires schedules { All (All (λ core. core < cores)) (lists_of schedules.now) }
-    ensures made { IfOk result (spec.Surveys S.starts S.makes S.view S.waits (made_spec.loop_on image.now cores room) (lists_of schedules.now)) }
-    ensures fault { IfErr result (spec.IsFaultOfOne S.starts S.makes S.view S.waits (made_spec.loop_on image.now cores room) (lists_of schedules.now)) }
+    requires schedules { All (All (λ core. core < on.now.cores)) (lists_of schedules.now) }
+    ensures made { IfOk result (spec.Surveys S.starts S.makes S.view S.waits (made_spec.the_loop on.now) (lists_of schedules.now)) }
+    ensures fault { IfErr result (spec.IsFaultOfOne S.starts S.makes S.view S.waits (made_spec.the_loop on.now) (lists_of schedules.now)) }
 {
     let mut survey = Survey {
         over: 0,
@@ -59,8 +55,8 @@ pub fn survey_schedules<S: EpochStore>(
         most: None,
     };
     for (place, schedule) in schedules.iter().enumerate() {
-        let book: Book<S> = drive_schedule(alloc, image, cores, room, schedule.as_slice())?;
-        add_run(alloc, cores, place, &book, &mut survey)?;
+        let book: Book<S> = drive_schedule(alloc, on, schedule.as_slice())?;
+        add_run(alloc, on.cores, place, &book, &mut survey)?;
     }
     Ok(survey)
 }

@@ -1,18 +1,18 @@
 //! What one schedule makes, with what is printed above it.
 ghost use Rattle.std.specs.Prelude.{◌≡◌, ◌<◌, ◌++◌, ℕ, All, List, Option, Ok, IfOk, IfErr};
-ghost use Rattle.violations.specs.Rule.{IsCoreCount};
+ghost use Rattle.homefree.specs.LockView.{loop_of};
 ghost use Rattle.turn_steps.specs.Writing.{IsWrittenBut};
 ghost use Rattle.rv32_exec.specs.declared.sequential.End.{End};
 ghost use Rattle.spec_history.specs.declared.entry.Entry.{Entry as HistoryEntry};
 ghost use Rattle.all_schedules.specs.declared.detail.Detail.TheVariants as Detail;
-ghost use Rattle.all_schedules.specs.Made.{IsFault, IsMade, Makes, loop_on};
+ghost use Rattle.all_schedules.specs.Made.{IsFault, IsMade, Makes, the_loop};
 ghost use Rattle.all_schedules.specs.Shown.{IsShown};
 ghost use Rattle.all_schedules.specs.Told as spec;
 
 use crate::laws::history_is_fixed;
+use crate::loop_on::LoopOn;
 use crate::print::print_book;
 use crate::replay::cause_of;
-use crate::room::Room;
 use homefree::{Book, TurnFault};
 use run_ledger::Shares;
 use rv32_image::Image;
@@ -26,20 +26,17 @@ use violations::EpochStore;
 /// once makes it again, so it is that one.
 pub(crate) fn tell_turns<S: ShownStore, W: Write>(
     alloc: Global,
-    image: &Image,
-    cores: u32,
-    room: Room,
+    on: &LoopOn<'_>,
     schedule: &[u32],
     writer: &mut W,
 ) -> Outcome
-    requires cores { IsCoreCount image.now cores }
-    requires schedule { All (λ core. core < cores) schedule.now }
-    ensures { (end : Option End) (history : List HistoryEntry) → Makes S.starts S.makes S.view S.waits (loop_on image.now cores room) schedule.now (Ok end) history
-        → spec.IsShownMade (spec.IsHead S.starts S.makes S.view S.waits S.changes Detail.Steps) (loop_on image.now cores room) schedule.now history (W.contents writer.old) (W.contents writer.new) result }
+    requires schedule { All (λ core. core < on.now.cores) schedule.now }
+    ensures { (end : Option End) (history : List HistoryEntry) → Makes S.starts S.makes S.view S.waits (the_loop on.now) schedule.now (Ok end) history
+        → spec.IsShownMade (spec.IsHead S.starts S.makes S.view S.waits S.changes Detail.Steps) (the_loop on.now) schedule.now history (W.contents writer.old) (W.contents writer.new) result }
 {
     history_is_fixed::<S>();
-    match step_schedule::<S, W>(alloc, image, cores, room, schedule, writer) {
-        Ok((book, rest, whole)) => show_told(alloc, image, cores, &book, rest, whole, writer),
+    match step_schedule::<S, W>(alloc, on, schedule, writer) {
+        Ok((book, rest, whole)) => show_told(alloc, on, &book, rest, whole, writer),
         Err(fault) => Outcome::Stopped(cause_of(fault)),
     }
 }
@@ -48,28 +45,27 @@ pub(crate) fn tell_turns<S: ShownStore, W: Write>(
 /// of the text, and whether all before it was written.
 fn step_schedule<S: ShownStore, W: Write>(
     alloc: Global,
-    image: &Image,
-    cores: u32,
-    room: Room,
+    on: &LoopOn<'_>,
     schedule: &[u32],
     writer: &mut W,
 ) -> Result<(Book<S>, Vec<u8>, bool), TurnFault>
-    requires cores { IsCoreCount image.now cores }
-    requires schedule { All (λ core. core < cores) schedule.now }
-    ensures made { IfOk result (λ told. IsMade S.starts S.makes S.view S.waits (loop_on image.now cores room) schedule.now told.0) }
-    ensures head { IfOk result (λ told. spec.IsToldOf (spec.IsHead S.starts S.makes S.view S.waits S.changes Detail.Steps) (loop_on image.now cores room) schedule.now told.0.history told.1.items told.2
+    requires schedule { All (λ core. core < on.now.cores) schedule.now }
+    ensures made { IfOk result (λ told. IsMade S.starts S.makes S.view S.waits (the_loop on.now) schedule.now told.0) }
+    ensures head { IfOk result (λ told. spec.IsToldOf (spec.IsHead S.starts S.makes S.view S.waits S.changes Detail.Steps) (the_loop on.now) schedule.now told.0.history told.1.items told.2
         (W.contents writer.old) (W.contents writer.new)) }
-    ensures fault { IfErr result (IsFault S.starts S.makes S.view S.waits (loop_on image.now cores room) schedule.now) }
-    ensures begun { IfErr result (λ _. spec.Leaves (spec.IsHead S.starts S.makes S.view S.waits S.changes Detail.Steps) (loop_on image.now cores room) schedule.now (W.contents writer.old) (W.contents writer.new)) }
+    ensures fault { IfErr result (IsFault S.starts S.makes S.view S.waits (the_loop on.now) schedule.now) }
+    ensures begun { IfErr result (λ _. spec.Leaves (spec.IsHead S.starts S.makes S.view S.waits S.changes Detail.Steps) (the_loop on.now) schedule.now (W.contents writer.old) (W.contents writer.new)) }
 {
-    let made: Result<(Book<S>, Shares), _> = Book::new(alloc, image, cores, room.entries());
+    let cores = on.cores;
+    let room = on.room.entries();
+    let made: Result<(Book<S>, Shares), _> = Book::new(alloc, on.image, cores, room);
     let Ok((mut book, mut shares)) = made else {
         return Err(TurnFault::NoMemory);
     };
     let stepped = drive_steps(
         alloc,
         &mut book,
-        image,
+        on.image,
         cores,
         schedule,
         &mut shares,
@@ -89,19 +85,17 @@ fn step_schedule<S: ShownStore, W: Write>(
 /// Writes what is printed of a book below this rest of its head, before which all was written or not, and answers what the book came to.
 pub(crate) fn show_told<S: EpochStore, W: Write>(
     alloc: Global,
-    image: &Image,
-    cores: u32,
+    on: &LoopOn<'_>,
     book: &Book<S>,
     rest: Vec<u8>,
     whole: bool,
     writer: &mut W,
 ) -> Outcome
-    requires image { book.now.image ≡ image.now }
-    requires cores { book.now.cores ≡ cores }
+    requires same { loop_of book.now ≡ the_loop on.now }
     ensures { (first : Option (List ℕ)) (head : List ℕ) → IsWrittenBut rest.items whole first (W.contents writer.old) head
-        → spec.IsShownBelow image.now cores book.now.history head first (W.contents writer.new) result }
+        → spec.IsShownBelow on.now.image.now on.now.cores book.now.history head first (W.contents writer.new) result }
 {
-    let Ok((outcome, below)) = print_book(alloc, image, cores, book) else {
+    let Ok((outcome, below)) = print_book(alloc, on, book) else {
         return Outcome::Stopped(CommandStop::NoMemory);
     };
     let mut text = rest;

@@ -1,18 +1,18 @@
 //! The replay of a trace: its schedule, driven again.
 ghost use Rattle.std.specs.Prelude.{◌≡◌, ◌≤◌, ◌<◌, ◌++◌, ℕ, All, List, Option, MatchOption, Ok, IfOk, IfErr, OnOk, length};
 ghost use Rattle.trace_text.specs.TraceText.{longest_trace_text};
-ghost use Rattle.violations.specs.Rule.{IsCoreCount};
 ghost use Rattle.rv32_exec.specs.declared.sequential.End.{End};
-ghost use Rattle.all_schedules.specs.Made.{IsMade, Makes, loop_on};
+ghost use Rattle.all_schedules.specs.Made.{IsMade, Makes, the_loop};
 ghost use Rattle.turn_steps.specs.Writing.{IsWrittenBut};
 ghost use Rattle.all_schedules.specs.Told.{IsHead};
 ghost use Rattle.homefree.specs.Retraced as shown;
 ghost use Rattle.all_schedules.specs.Traced as spec;
 
+use crate::core_count::CoreCount;
 use crate::detail::Detail;
 use crate::driving::drive_schedule;
+use crate::loop_on::LoopOn;
 use crate::replay::cause_of;
-use crate::room::Room;
 use crate::settings::Settings;
 use crate::told::{show_told, tell_turns};
 use homefree::Book;
@@ -38,7 +38,7 @@ pub fn begins_trace(text: &[u8]) -> bool
 pub fn retrace<S: ShownStore, W: Write>(
     alloc: Global,
     detail: Detail,
-    cores: Option<u32>,
+    cores: Option<CoreCount>,
     settings: Settings,
     text: &[u8],
     writer: &mut W,
@@ -58,23 +58,20 @@ pub fn retrace<S: ShownStore, W: Write>(
         None => return Outcome::Usage,
     };
     let entries = traced.entries.as_slice();
-    drive_trace::<S, W>(
-        alloc,
-        detail,
-        &image,
-        traced.cores,
-        settings.room,
-        entries,
-        writer,
-    )
+    let on = LoopOn {
+        image: &image,
+        cores: traced.cores,
+        room: settings.room,
+    };
+    drive_trace::<S, W>(alloc, detail, &on, entries, writer)
 }
 
 /// Whether another number of cores is said than this one.
-fn is_other(cores: Option<u32>, number: u32) -> bool
+fn is_other(cores: Option<CoreCount>, number: u32) -> bool
     ensures { result ≡ spec.is_other cores number }
 {
     match cores {
-        Some(cores) => cores != number,
+        Some(cores) => cores.count() != number,
         None => false,
     }
 }
@@ -84,26 +81,23 @@ fn is_other(cores: Option<u32>, number: u32) -> bool
 fn drive_trace<S: ShownStore, W: Write>(
     alloc: Global,
     detail: Detail,
-    image: &Image,
-    cores: u32,
-    room: Room,
+    on: &LoopOn<'_>,
     entries: &[Entry],
     writer: &mut W,
 ) -> Outcome
-    requires cores { IsCoreCount image.now cores }
-    ensures { spec.IsTraceOutcome S.starts S.makes S.view S.waits (IsHead S.starts S.makes S.view S.waits S.changes detail) (loop_on image.now cores room) entries.now (W.contents writer.old) (W.contents writer.new) result }
+    ensures { spec.IsTraceOutcome S.starts S.makes S.view S.waits (IsHead S.starts S.makes S.view S.waits S.changes detail) (the_loop on.now) entries.now (W.contents writer.old) (W.contents writer.new) result }
 {
-    let Ok(schedule) = turns_of(alloc, cores, entries) else {
+    let Ok(schedule) = turns_of(alloc, on.cores, entries) else {
         return Outcome::Stopped(CommandStop::NoMemory);
     };
     let turns = schedule.as_slice();
     match detail {
-        Detail::Whole => match make_again::<S>(alloc, image, cores, room, turns, entries) {
-            Ok(book) => show_told(alloc, image, cores, &book, Vec::new(alloc), true, writer),
+        Detail::Whole => match make_again::<S>(alloc, on, turns, entries) {
+            Ok(book) => show_told(alloc, on, &book, Vec::new(alloc), true, writer),
             Err(outcome) => outcome,
         },
-        Detail::Steps => match check_trace::<S>(alloc, image, cores, room, turns, entries) {
-            Ok(()) => tell_turns::<S, W>(alloc, image, cores, room, turns, writer),
+        Detail::Steps => match check_trace::<S>(alloc, on, turns, entries) {
+            Ok(()) => tell_turns::<S, W>(alloc, on, turns, writer),
             Err(outcome) => outcome,
         },
     }
@@ -112,20 +106,17 @@ fn drive_trace<S: ShownStore, W: Write>(
 /// Takes the turns of a trace: they make its history again, or an Err says what keeps them from it.
 fn make_again<S: ShownStore>(
     alloc: Global,
-    image: &Image,
-    cores: u32,
-    room: Room,
+    on: &LoopOn<'_>,
     turns: &[u32],
     entries: &[Entry],
 ) -> Result<Book<S>, Outcome>
-    requires cores { IsCoreCount image.now cores }
-    requires schedule { All (λ core. core < cores) turns.now }
-    requires turns { turns.now ≡ shown.turns_of cores entries.now }
-    ensures made { IfOk result (λ book. IsMade S.starts S.makes S.view S.waits (loop_on image.now cores room) turns.now book) }
+    requires schedule { All (λ core. core < on.now.cores) turns.now }
+    requires turns { turns.now ≡ shown.turns_of on.now.cores entries.now }
+    ensures made { IfOk result (λ book. IsMade S.starts S.makes S.view S.waits (the_loop on.now) turns.now book) }
     ensures same { IfOk result (λ book. book.history ≡ entries.now) }
-    ensures other { IfErr result (spec.IsNotRetraced S.starts S.makes S.view S.waits (loop_on image.now cores room) entries.now) }
+    ensures other { IfErr result (spec.IsNotRetraced S.starts S.makes S.view S.waits (the_loop on.now) entries.now) }
 {
-    match drive_schedule::<S>(alloc, image, cores, room, turns) {
+    match drive_schedule::<S>(alloc, on, turns) {
         Ok(book) => match is_same(&book, entries) {
             Ok(()) => Ok(book),
             Err(outcome) => Err(outcome),
@@ -137,19 +128,16 @@ fn make_again<S: ShownStore>(
 /// Whether the turns of a trace make its history again: an Err says what keeps them from it.
 fn check_trace<S: ShownStore>(
     alloc: Global,
-    image: &Image,
-    cores: u32,
-    room: Room,
+    on: &LoopOn<'_>,
     turns: &[u32],
     entries: &[Entry],
 ) -> Result<(), Outcome>
-    requires cores { IsCoreCount image.now cores }
-    requires schedule { All (λ core. core < cores) turns.now }
-    requires turns { turns.now ≡ shown.turns_of cores entries.now }
-    ensures made { IfOk result (λ _. (end : Option End) × Makes S.starts S.makes S.view S.waits (loop_on image.now cores room) turns.now (Ok end) entries.now) }
-    ensures other { IfErr result (spec.IsNotRetraced S.starts S.makes S.view S.waits (loop_on image.now cores room) entries.now) }
+    requires schedule { All (λ core. core < on.now.cores) turns.now }
+    requires turns { turns.now ≡ shown.turns_of on.now.cores entries.now }
+    ensures made { IfOk result (λ _. (end : Option End) × Makes S.starts S.makes S.view S.waits (the_loop on.now) turns.now (Ok end) entries.now) }
+    ensures other { IfErr result (spec.IsNotRetraced S.starts S.makes S.view S.waits (the_loop on.now) entries.now) }
 {
-    match make_again::<S>(alloc, image, cores, room, turns, entries) {
+    match make_again::<S>(alloc, on, turns, entries) {
         Ok(_) => Ok(()),
         Err(outcome) => Err(outcome),
     }

@@ -3,28 +3,39 @@ ghost use Rattle.std.specs.List.{list_all};
 ghost use Rattle.std.specs.Char.{is_ascii_digit};
 ghost use Rattle.all_schedules.specs.Addresses.{addresses_of};
 ghost use Rattle.all_schedules.specs.Asked as spec;
-ghost use Rattle.all_schedules.specs.Work.{AreTurns};
 
 use crate::addresses::{wait_place, wait_words};
+use crate::core_count::{CoreCount, cores_in, only_cores};
 use crate::costs::costs_behind;
 use crate::detail::Detail;
 use crate::holds::pieces_of;
 use crate::paced::Pace;
 use std::convert::AsStr;
-use trace_commands::{Store, first_word, number_up_to_16, only_number, store_named};
+use trace_commands::{Store, first_word, only_number, store_named};
 use turn_costs::Costs;
 
 /// Whose turns are taken, on 1 to 16 cores.
 #[derive(Clone, Copy)]
 pub enum Turns {
     /// Those of the input, on so many cores. None: as many as its trace has.
-    Given { detail: Detail, cores: Option<u32> },
+    Given {
+        detail: Detail,
+        cores: Option<CoreCount>,
+    },
     /// Those of every schedule of so many turns.
-    Every { cores: u32, turns: u32 },
+    Every {
+        cores: CoreCount,
+        turns: u32,
+    },
     /// Those of the run by this pace.
-    Paced { pace: Pace, cores: u32 },
+    Paced {
+        pace: Pace,
+        cores: CoreCount,
+    },
     /// Those of threads, one for each core, as they come.
-    Threaded { cores: u32 },
+    Threaded {
+        cores: CoreCount,
+    },
 }
 
 /// What the words of a command line ask for.
@@ -40,7 +51,6 @@ pub struct Request {
 pub fn asked_of<S: AsStr>(words: &[S]) -> Option<(Request, &[S])>
     ensures asked { IfSome result (λ found. spec.asked_in (map S.text words.now)
         ≡ Some (record { request = found.0; addresses = addresses_of (map S.text found.1.now) })) }
-    ensures turns { IfSome result (λ found. AreTurns found.0.turns) }
     ensures none { IfNone result (spec.asked_in (map S.text words.now) ≡ None) }
 {
     let Some((costs, words)) = costs_behind(words) else {
@@ -56,9 +66,7 @@ pub fn asked_of<S: AsStr>(words: &[S]) -> Option<(Request, &[S])>
 
 /// These turns, where they cost this. None: only at even speed does a turn cost something.
 fn with_costs(costs: Option<Costs>, turns: Turns) -> Option<Turns>
-    requires { AreTurns turns }
-    ensures value { result ≡ spec.with_costs costs turns }
-    ensures turns { IfSome result AreTurns }
+    ensures { result ≡ spec.with_costs costs turns }
 {
     let Some(costs) = costs else {
         return Some(turns);
@@ -88,7 +96,6 @@ fn paced_with(costs: Costs, pace: Pace) -> Option<Pace>
 fn asked_before_costs<S: AsStr>(words: &[S]) -> Option<(Request, &[S])>
     ensures asked { IfSome result (λ found. spec.asked_before_costs (map S.text words.now)
         ≡ Some (record { request = found.0; addresses = addresses_of (map S.text found.1.now) })) }
-    ensures turns { IfSome result (λ found. AreTurns found.0.turns) }
     ensures none { IfNone result (spec.asked_before_costs (map S.text words.now) ≡ None) }
 {
     let (before, behind) = words.split_at(wait_place(words));
@@ -124,8 +131,7 @@ fn is_even(turns: Turns) -> bool
 /// What these words ask for; the first is the program's name. None: they are no command of the program.
 #[tactic(auto, unfolding(crate::specs::Asked::request_in))]
 fn request_of<S: AsStr>(words: &[S]) -> Option<Request>
-    ensures asked { result ≡ spec.request_in (map S.text words.now) }
-    ensures turns { IfSome result (λ request. AreTurns request.turns) }
+    ensures { result ≡ spec.request_in (map S.text words.now) }
 {
     let (_program, words) = first_word(words)?;
     let (word, words) = first_word(words)?;
@@ -135,8 +141,7 @@ fn request_of<S: AsStr>(words: &[S]) -> Option<Request>
 /// A command by its first word.
 #[tactic(auto, unfolding(crate::specs::Asked::command))]
 fn command<S: AsStr>(word: &str, words: &[S]) -> Option<Request>
-    ensures asked { result ≡ spec.command word.now (map S.text words.now) }
-    ensures turns { IfSome result (λ request. AreTurns request.turns) }
+    ensures { result ≡ spec.command word.now (map S.text words.now) }
 {
     if word == "steps" {
         steps(words)
@@ -158,8 +163,7 @@ fn command<S: AsStr>(word: &str, words: &[S]) -> Option<Request>
 /// `steps STORE`, `steps STORE CORES`.
 #[tactic(auto, unfolding(crate::specs::Asked::steps))]
 fn steps<S: AsStr>(words: &[S]) -> Option<Request>
-    ensures asked { result ≡ spec.steps (map S.text words.now) }
-    ensures turns { IfSome result (λ request. AreTurns request.turns) }
+    ensures { result ≡ spec.steps (map S.text words.now) }
 {
     let (store, words) = first_word(words)?;
     given(Detail::Steps, store, words)
@@ -168,8 +172,7 @@ fn steps<S: AsStr>(words: &[S]) -> Option<Request>
 /// `STORE`, `STORE CORES`.
 #[tactic(auto, unfolding(crate::specs::Asked::given))]
 fn given<S: AsStr>(detail: Detail, store: &str, words: &[S]) -> Option<Request>
-    ensures asked { result ≡ spec.given detail store.now (map S.text words.now) }
-    ensures turns { IfSome result (λ request. AreTurns request.turns) }
+    ensures { result ≡ spec.given detail store.now (map S.text words.now) }
 {
     match first_word(words) {
         None => {
@@ -177,7 +180,7 @@ fn given<S: AsStr>(detail: Detail, store: &str, words: &[S]) -> Option<Request>
             over(store, Turns::Given { detail, cores })
         }
         Some(_) => {
-            let cores = Some(only_number(words)?);
+            let cores = Some(only_cores(words)?);
             over(store, Turns::Given { detail, cores })
         }
     }
@@ -186,22 +189,20 @@ fn given<S: AsStr>(detail: Detail, store: &str, words: &[S]) -> Option<Request>
 /// `even STORE CORES`, or by another pace.
 #[tactic(auto, unfolding(crate::specs::Asked::paced))]
 fn paced<S: AsStr>(pace: Pace, words: &[S]) -> Option<Request>
-    ensures asked { result ≡ spec.paced pace (map S.text words.now) }
-    ensures turns { IfSome result (λ request. AreTurns request.turns) }
+    ensures { result ≡ spec.paced pace (map S.text words.now) }
 {
     let (store, words) = first_word(words)?;
-    let cores = only_number(words)?;
+    let cores = only_cores(words)?;
     over(store, Turns::Paced { pace, cores })
 }
 
 /// `held STORE CORES`.
 #[tactic(auto, unfolding(crate::specs::Asked::held))]
 fn held<S: AsStr>(words: &[S]) -> Option<Request>
-    ensures asked { result ≡ spec.held (map S.text words.now) }
-    ensures turns { IfSome result (λ request. AreTurns request.turns) }
+    ensures { result ≡ spec.held (map S.text words.now) }
 {
     let (name, words) = first_word(words)?;
-    let cores = only_number(words)?;
+    let cores = only_cores(words)?;
     let pace = Pace::Held(pieces_of(store_named(name)?), None);
     over(name, Turns::Paced { pace, cores })
 }
@@ -209,19 +210,17 @@ fn held<S: AsStr>(words: &[S]) -> Option<Request>
 /// `threads STORE CORES`.
 #[tactic(auto, unfolding(crate::specs::Asked::threaded))]
 fn threaded<S: AsStr>(words: &[S]) -> Option<Request>
-    ensures asked { result ≡ spec.threaded (map S.text words.now) }
-    ensures turns { IfSome result (λ request. AreTurns request.turns) }
+    ensures { result ≡ spec.threaded (map S.text words.now) }
 {
     let (store, words) = first_word(words)?;
-    let cores = only_number(words)?;
+    let cores = only_cores(words)?;
     over(store, Turns::Threaded { cores })
 }
 
 /// `seeded SEED STORE CORES`.
 #[tactic(auto, unfolding(crate::specs::Asked::seeded))]
 fn seeded<S: AsStr>(words: &[S]) -> Option<Request>
-    ensures asked { result ≡ spec.seeded (map S.text words.now) }
-    ensures turns { IfSome result (λ request. AreTurns request.turns) }
+    ensures { result ≡ spec.seeded (map S.text words.now) }
 {
     let (word, words) = first_word(words)?;
     let seed = seed_in(word)?;
@@ -231,12 +230,11 @@ fn seeded<S: AsStr>(words: &[S]) -> Option<Request>
 /// `all STORE CORES TURNS`.
 #[tactic(auto, using(std::proofs::lemmas::Bool::Decides::nat_tests), unfolding(crate::specs::Asked::every))]
 fn every<S: AsStr>(words: &[S]) -> Option<Request>
-    ensures asked { result ≡ spec.every (map S.text words.now) }
-    ensures turns { IfSome result (λ request. AreTurns request.turns) }
+    ensures { result ≡ spec.every (map S.text words.now) }
 {
     let (store, words) = first_word(words)?;
     let (word, words) = first_word(words)?;
-    let cores = number_up_to_16(word)?;
+    let cores = cores_in(word)?;
     let turns = only_number(words)?;
     if !is_small(cores, turns) {
         return None;
@@ -247,8 +245,7 @@ fn every<S: AsStr>(words: &[S]) -> Option<Request>
 /// The request of these turns over the store that a word names.
 #[tactic(auto, unfolding(crate::specs::Asked::over))]
 fn over(store: &str, turns: Turns) -> Option<Request>
-    ensures asked { result ≡ spec.over store.now turns }
-    ensures turns { IfSome result (λ request. request.turns ≡ turns) }
+    ensures { result ≡ spec.over store.now turns }
 {
     let store = store_named(store)?;
     Some(Request { store, turns })
@@ -256,10 +253,10 @@ fn over(store: &str, turns: Turns) -> Option<Request>
 
 /// Whether there are at most 65,536 schedules of so many turns.
 #[tactic(auto, using(std::proofs::lemmas::Bool::Decides::nat_tests))]
-fn is_small(cores: u32, turns: u32) -> bool
+fn is_small(cores: CoreCount, turns: u32) -> bool
     ensures { result ≡ spec.is_small cores turns }
 {
-    match cores.checked_pow(turns) {
+    match cores.count().checked_pow(turns) {
         Some(count) => count <= 65_536,
         None => false,
     }

@@ -1,16 +1,16 @@
 //! The lines `even`: up to which cost a loop gains.
 ghost use Rattle.std.specs.Prelude.{◌≡◌, ◌≤◌, ◌++◌, All, IfOk, OnOk};
 ghost use Rattle.violations.specs.Rule.{IsCoreCount};
-ghost use Rattle.all_schedules.specs.Made.{loop_on};
+ghost use Rattle.all_schedules.specs.Made.{the_loop};
 ghost use Rattle.gain.specs.Evens as spec;
 
 use crate::gains::Study;
 use crate::lines::more_counts;
 use crate::measure::{Measured, measure};
+use crate::study_on::StudyOn;
 use crate::text::push_number;
-use all_schedules::{Room, holds_at};
+use all_schedules::{LoopOn, holds_at};
 use even_speed::Terms;
-use rv32_exec::Image;
 use std::alloc::{AllocError, Global};
 use turn_costs::{Cost, Costs, PricedStore, steps_in_order};
 
@@ -25,16 +25,13 @@ pub fn push_evens<S: PricedStore>(
     alloc: Global,
     text: &mut Vec<u8>,
     store: &[u8],
-    image: &Image,
-    study: &Study,
-    addresses: &[u32],
+    asked: &StudyOn<'_>,
 ) -> Result<(), AllocError>
-    requires cores { IsCoreCount image.now study.now.cores }
-    ensures { OnOk result (spec.AddEvens S.starts S.makes S.view S.waits S.prices S.keeps addresses.now study.now image.now store.now text.old.items text.new.items) }
+    ensures { OnOk result (spec.AddEvens S.starts S.makes S.view S.waits S.prices S.keeps asked.now.addresses.now asked.now.study.now asked.now.image.now store.now text.old.items text.new.items) }
 {
-    push_even::<S>(alloc, text, store, image, study, addresses, 1)?;
-    let more = more_counts(alloc, study.cores)?;
-    push_each::<S>(alloc, text, store, image, study, addresses, more.as_slice())
+    push_even::<S>(alloc, text, store, asked, 1)?;
+    let more = more_counts(alloc, asked.study.cores.count())?;
+    push_each::<S>(alloc, text, store, asked, more.as_slice())
 }
 
 /// Adds the line of each of these numbers of cores.
@@ -42,16 +39,14 @@ fn push_each<S: PricedStore>(
     alloc: Global,
     text: &mut Vec<u8>,
     store: &[u8],
-    image: &Image,
-    study: &Study,
-    addresses: &[u32],
+    asked: &StudyOn<'_>,
     counts: &[u32],
 ) -> Result<(), AllocError>
-    requires counts { All (λ k. IsCoreCount image.now k) counts.now }
-    ensures { OnOk result (spec.AddEvenEach S.starts S.makes S.view S.waits S.prices S.keeps addresses.now study.now image.now store.now counts.now text.old.items text.new.items) }
+    requires counts { All (λ k. IsCoreCount asked.now.image.now k) counts.now }
+    ensures { OnOk result (spec.AddEvenEach S.starts S.makes S.view S.waits S.prices S.keeps asked.now.addresses.now asked.now.study.now asked.now.image.now store.now counts.now text.old.items text.new.items) }
 {
     for cores in counts {
-        push_even::<S>(alloc, text, store, image, study, addresses, *cores)?;
+        push_even::<S>(alloc, text, store, asked, *cores)?;
     }
     Ok(())
 }
@@ -61,15 +56,18 @@ fn push_even<S: PricedStore>(
     alloc: Global,
     text: &mut Vec<u8>,
     store: &[u8],
-    image: &Image,
-    study: &Study,
-    addresses: &[u32],
+    asked: &StudyOn<'_>,
     cores: u32,
 ) -> Result<(), AllocError>
-    requires cores { IsCoreCount image.now cores }
-    ensures { OnOk result (spec.AddEven S.starts S.makes S.view S.waits S.prices S.keeps addresses.now study.now image.now store.now cores text.old.items text.new.items) }
+    requires cores { IsCoreCount asked.now.image.now cores }
+    ensures { OnOk result (spec.AddEven S.starts S.makes S.view S.waits S.prices S.keeps asked.now.addresses.now asked.now.study.now asked.now.image.now store.now cores text.old.items text.new.items) }
 {
-    let at = even_at::<S>(alloc, image, study, addresses, cores)?;
+    let on = LoopOn {
+        image: asked.image,
+        cores,
+        room: asked.study.room,
+    };
+    let at = even_at::<S>(alloc, &on, asked)?;
     push_line(text, store, cores, at)
 }
 
@@ -101,17 +99,14 @@ fn push_at(text: &mut Vec<u8>, at: Option<u32>) -> Result<(), AllocError>
 /// The most that each action may cost for the loop to gain.
 fn even_at<S: PricedStore>(
     alloc: Global,
-    image: &Image,
-    study: &Study,
-    addresses: &[u32],
-    cores: u32,
+    on: &LoopOn<'_>,
+    asked: &StudyOn<'_>,
 ) -> Result<Option<u32>, AllocError>
-    requires cores { IsCoreCount image.now cores }
-    ensures { IfOk result (spec.IsEvenAt S.starts S.makes S.view S.waits S.prices S.keeps addresses.now study.now (loop_on image.now cores study.now.room)) }
+    ensures { IfOk result (spec.IsEvenAt S.starts S.makes S.view S.waits S.prices S.keeps asked.now.addresses.now asked.now.study.now (the_loop on.now)) }
 {
     for tried in 0..MOST_TRIED + 1 {
         let each = MOST_TRIED - tried;
-        if gains_at::<S>(alloc, image, study, addresses, cores, each)? {
+        if gains_at::<S>(alloc, on, asked, each)? {
             return Ok(Some(each));
         }
     }
@@ -121,24 +116,21 @@ fn even_at<S: PricedStore>(
 /// Whether the loop takes fewer steps than in order, where each action costs so much.
 fn gains_at<S: PricedStore>(
     alloc: Global,
-    image: &Image,
-    study: &Study,
-    addresses: &[u32],
-    cores: u32,
+    on: &LoopOn<'_>,
+    asked: &StudyOn<'_>,
     each: u32,
 ) -> Result<bool, AllocError>
-    requires cores { IsCoreCount image.now cores }
     requires each { each ≤ 60 }
-    ensures { IfOk result (spec.Compares S.starts S.makes S.view S.waits S.prices S.keeps addresses.now (loop_on image.now cores study.now.room) (spec.costs_at study.now each)) }
+    ensures { IfOk result (spec.Compares S.starts S.makes S.view S.waits S.prices S.keeps asked.now.addresses.now (the_loop on.now) (spec.costs_at asked.now.study.now each)) }
 {
-    let costs = costs_at(study, each);
+    let costs = costs_at(asked.study, each);
     let terms = Terms {
-        holds: holds_at(alloc, addresses)?,
-        queues: addresses.is_empty(),
+        holds: holds_at(alloc, asked.addresses)?,
+        queues: asked.addresses.is_empty(),
         costs: Some(costs),
     };
-    let measured = measure::<S>(alloc, image, cores, study.room, &terms)?;
-    match steps_in_order::<S>(alloc, image, &costs) {
+    let measured = measure::<S>(alloc, on, &terms)?;
+    match steps_in_order::<S>(alloc, on.image, &costs) {
         Ok(order) => Ok(is_faster(&measured, order)),
         Err(_) => Err(AllocError),
     }

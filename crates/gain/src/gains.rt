@@ -1,16 +1,14 @@
 //! What the loop of an image gains, over any reader and writers.
-ghost use Rattle.std.specs.Prelude.{◌≡◌, ◌≤◌, ◌+◌, true, IfOk, MatchResult, map};
-ghost use Rattle.std.specs.List.{list_all};
+ghost use Rattle.std.specs.Prelude.{◌≡◌, ◌≤◌, ◌+◌, IfOk, MatchResult, map};
 ghost use Rattle.rv32_image.specs.Input.{TakesAtMost};
 ghost use Rattle.rv32_image.specs.ImageText.{longest_image_text};
 ghost use Rattle.rv32_image.specs.Reading.{ForText};
-ghost use Rattle.trace_commands.specs.Stores.{names_store};
 ghost use Rattle.all_schedules.specs.Stores.{RunsOnAll};
 ghost use Rattle.gain.specs.Gains as spec;
 
 use crate::limit_lines::push_limits;
 use crate::stores::push_stores;
-use all_schedules::{Room, check_stores};
+use all_schedules::{CoreCount, Room, StoreWords, check_stores};
 use rv32_image::{Image, read_image};
 use std::alloc::{AllocError, Global};
 use std::convert::AsStr;
@@ -22,7 +20,7 @@ use turn_costs::Costs;
 #[derive(Drop)]
 pub struct Study {
     /// The most cores that it runs on.
-    pub cores: u32,
+    pub cores: CoreCount,
     /// How many entries the history of a run may have.
     pub room: Room,
     /// Whether runs in which loads wait for what earlier epochs store are asked too.
@@ -38,7 +36,7 @@ pub struct Study {
 /// Runs the image that the reader gives at even speed on 1, 2, 4, 8 cores, as far as these are fewer than the cores, and on the cores, over
 /// each of these stores, where loads at these addresses of code wait and turns cost what is asked. It writes a line for each run, and one for
 /// that in which loads wait for what earlier epochs store, where those are asked for; below them a line of the limits for each number of cores,
-/// where they are asked for. The cores are at least 1.
+/// where they are asked for.
 ///
 /// The status is 0 where that was written; 2 where the image, a machine or the number of cores is refused; 3 where memory ran out or a
 /// write failed. With 2 and 3 one line on the error stream says which. All that is written was made before the first byte: after a
@@ -47,14 +45,12 @@ pub fn do_gain<S: AsStr, R: Read, W: Write, E: Write>(
     alloc: Global,
     study: &Study,
     addresses: &[u32],
-    stores: &[S],
+    stores: &StoreWords<'_, S>,
     reader: &mut R,
     writer: &mut W,
     errors: &mut E,
 ) -> u8
-    requires cores { 1 ≤ study.now.cores }
-    requires stores { list_all names_store (map S.text stores.now) ≡ true }
-    ensures outcome { ForText (R.remaining reader.old) (λ text. spec.GainAnswers study.now addresses.now (map S.text stores.now) text
+    ensures outcome { ForText (R.remaining reader.old) (λ text. spec.GainAnswers study.now addresses.now (map S.text stores.now.words.now) text
         (record { old = W.contents writer.old; new = W.contents writer.new }) (record { old = E.contents errors.old; new = E.contents errors.new }) result) }
     ensures taken { TakesAtMost (R.remaining reader.old) (R.remaining reader.new) (longest_image_text + 1) }
 {
@@ -69,15 +65,13 @@ fn gains_of_input<S: AsStr, R: Read, W: Write>(
     alloc: Global,
     study: &Study,
     addresses: &[u32],
-    stores: &[S],
+    stores: &StoreWords<'_, S>,
     reader: &mut R,
     writer: &mut W,
 ) -> Result<(), Outcome>
-    requires cores { 1 ≤ study.now.cores }
-    requires stores { list_all names_store (map S.text stores.now) ≡ true }
     ensures outcome { ForText (R.remaining reader.old) (λ text. MatchResult result
-        (λ _. spec.IsWritten study.now addresses.now (map S.text stores.now) text (W.contents writer.old) (W.contents writer.new))
-        (spec.IsUnwritten study.now addresses.now (map S.text stores.now) text (W.contents writer.old) (W.contents writer.new))) }
+        (λ _. spec.IsWritten study.now addresses.now (map S.text stores.now.words.now) text (W.contents writer.old) (W.contents writer.new))
+        (spec.IsUnwritten study.now addresses.now (map S.text stores.now.words.now) text (W.contents writer.old) (W.contents writer.new))) }
     ensures taken { TakesAtMost (R.remaining reader.old) (R.remaining reader.new) (longest_image_text + 1) }
 {
     match read_image(alloc, reader) {
@@ -91,16 +85,14 @@ fn gains_of_image<S: AsStr, W: Write>(
     image: &Image,
     study: &Study,
     addresses: &[u32],
-    stores: &[S],
+    stores: &StoreWords<'_, S>,
     writer: &mut W,
 ) -> Result<(), Outcome>
-    requires cores { 1 ≤ study.now.cores }
-    requires stores { list_all names_store (map S.text stores.now) ≡ true }
-    ensures { MatchResult result (λ _. spec.IsWrittenOf image.now study.now addresses.now (map S.text stores.now) (W.contents writer.old) (W.contents writer.new))
-        (spec.IsUnwrittenOf image.now study.now addresses.now (map S.text stores.now) (W.contents writer.old) (W.contents writer.new)) }
+    ensures { MatchResult result (λ _. spec.IsWrittenOf image.now study.now addresses.now (map S.text stores.now.words.now) (W.contents writer.old) (W.contents writer.new))
+        (spec.IsUnwrittenOf image.now study.now addresses.now (map S.text stores.now.words.now) (W.contents writer.old) (W.contents writer.new)) }
 {
-    check_stores(alloc, image, study.cores, stores)?;
-    let Ok(text) = text_of(alloc, image, study, addresses, stores) else {
+    check_stores(alloc, image, study.cores, stores.words)?;
+    let Ok(text) = text_of(alloc, image, study, addresses, stores.words) else {
         return Err(Outcome::Stopped(CommandStop::NoMemory));
     };
     if write_whole(writer, text.as_slice()) {
@@ -118,7 +110,6 @@ fn text_of<S: AsStr>(
     addresses: &[u32],
     stores: &[S],
 ) -> Result<Vec<u8>, AllocError>
-    requires cores { 1 ≤ study.now.cores }
     requires stores { RunsOnAll image.now study.now.cores (map S.text stores.now) }
     ensures { IfOk result (λ text. spec.IsText image.now study.now addresses.now (map S.text stores.now) text.items) }
 {

@@ -5,25 +5,24 @@ ghost use Rattle.gain.specs.Limits as spec;
 
 use crate::lines::more_counts;
 use crate::text::push_number;
+use all_schedules::CoreCount;
 use limits::{Limits, limits_in_order};
 use rv32_exec::Image;
 use std::alloc::{AllocError, Global};
 
-/// Adds a line of what the dependences allow for each of 1, 2, 4 and 8 cores that are fewer than these, and one for these. The cores
-/// are at least 1.
+/// Adds a line of what the dependences allow for each of 1, 2, 4 and 8 cores that are fewer than these, and one for these.
 ///
 /// `AllocError`: memory ran out.
 pub fn push_limits(
     alloc: Global,
     text: &mut Vec<u8>,
     image: &Image,
-    cores: u32,
+    cores: CoreCount,
 ) -> Result<(), AllocError>
-    requires { 1 ≤ cores }
     ensures { OnOk result (spec.AddLimits image.now (1 ∷ more_counts cores) text.old.items text.new.items) }
 {
     push_limit(alloc, text, image, 1)?;
-    let more = more_counts(alloc, cores)?;
+    let more = more_counts(alloc, cores.count())?;
     push_each(alloc, text, image, more.as_slice())
 }
 

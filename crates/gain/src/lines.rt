@@ -6,7 +6,7 @@ ghost use Rattle.gain.specs.Lines as spec;
 
 use crate::measure::{Base, measure, order_of};
 use crate::text::push_line;
-use all_schedules::Room;
+use all_schedules::{LoopOn, Room};
 use even_speed::Terms;
 use rv32_exec::Image;
 use std::alloc::{AllocError, Global};
@@ -36,22 +36,26 @@ struct Runs<'s> {
 }
 
 /// Adds a line for each of 1, 2, 4 and 8 cores that are fewer than these, and one for these, on these terms; and a line `held` below
-/// each, where there are such. The cores are at least 1.
+/// each, where there are such.
 ///
 /// `AllocError`: memory ran out.
 pub fn push_lines<S: PricedStore>(
     alloc: Global,
     text: &mut Vec<u8>,
     store: &[u8],
-    image: &Image,
-    cores: u32,
-    room: Room,
+    on: &LoopOn<'_>,
     waiting: &Waiting,
 ) -> Result<(), AllocError>
-    requires cores { IsCoreCount image.now cores }
-    ensures { OnOk result (spec.AddLines S.starts S.makes S.view S.waits S.prices S.keeps waiting.now image.now room store.now cores text.old.items text.new.items) }
+    ensures { OnOk result (spec.AddLines S.starts S.makes S.view S.waits S.prices S.keeps waiting.now on.now.image.now on.now.room store.now on.now.cores text.old.items text.new.items) }
 {
-    let first = measure::<S>(alloc, image, 1, room, &waiting.terms)?;
+    let image = on.image;
+    let room = on.room;
+    let one = LoopOn {
+        image,
+        cores: 1,
+        room,
+    };
+    let first = measure::<S>(alloc, &one, &waiting.terms)?;
     let order = order_of::<S>(alloc, image, waiting.terms.costs)?;
     let base = Base { first, order };
     push_line(text, false, waiting.told, store, 1, &base, &base.first)?;
@@ -62,7 +66,7 @@ pub fn push_lines<S: PricedStore>(
         base,
     };
     push_held::<S>(alloc, text, &runs, waiting, 1)?;
-    let more = more_counts(alloc, cores)?;
+    let more = more_counts(alloc, on.cores)?;
     push_each::<S>(alloc, text, &runs, waiting, more.as_slice())
 }
 
@@ -85,7 +89,12 @@ fn push_each<S: PricedStore>(
         base,
     } = runs;
     for cores in counts {
-        let measured = measure::<S>(alloc, image, *cores, *room, &waiting.terms)?;
+        let on = LoopOn {
+            image: *image,
+            cores: *cores,
+            room: *room,
+        };
+        let measured = measure::<S>(alloc, &on, &waiting.terms)?;
         push_line(text, false, waiting.told, store, *cores, base, &measured)?;
         push_held::<S>(alloc, text, runs, waiting, *cores)?;
     }
@@ -112,7 +121,12 @@ fn push_held<S: PricedStore>(
     } = runs;
     match &waiting.held {
         Some(terms) => {
-            let measured = measure::<S>(alloc, image, cores, *room, terms)?;
+            let on = LoopOn {
+                image: *image,
+                cores,
+                room: *room,
+            };
+            let measured = measure::<S>(alloc, &on, terms)?;
             push_line(text, true, true, store, cores, base, &measured)
         }
         None => Ok(()),

@@ -18,6 +18,7 @@ mod limit_lines;
 mod lines;
 mod measure;
 mod stores;
+mod study_on;
 mod text;
 mod work;
 

@@ -1,13 +1,12 @@
 //! What is measured of one run.
 ghost use Rattle.std.specs.Prelude.{IfOk, IfSome};
-ghost use Rattle.violations.specs.Rule.{IsCoreCount};
 ghost use Rattle.even_speed.specs.Even.{pacing_of};
 ghost use Rattle.turn_costs.specs.Order.{kind_of};
-ghost use Rattle.all_schedules.specs.Made.{loop_on};
+ghost use Rattle.all_schedules.specs.Made.{the_loop};
 ghost use Rattle.gain.specs.Measured as spec;
 
 use crate::kinds::{Kinds, kinds_of};
-use all_schedules::{EvenRun, Room, run_evenly};
+use all_schedules::{EvenRun, LoopOn, run_evenly};
 use even_speed::{Ran, Terms};
 use homefree::TurnFault;
 use rv32_exec::Image;
@@ -35,27 +34,25 @@ pub struct Base {
 }
 
 /// Runs the loop at even speed, on these terms, over a fresh store, and answers what is told of the run. None: its history was full before the loop
-/// was over. The cores are at least 1.
+/// was over.
 ///
 /// `AllocError`: memory ran out.
 pub fn measure<S: PricedStore>(
     alloc: Global,
-    image: &Image,
-    cores: u32,
-    room: Room,
+    on: &LoopOn<'_>,
     terms: &Terms,
 ) -> Result<Option<Measured>, AllocError>
-    requires cores { IsCoreCount image.now cores }
-    ensures is { IfOk result (spec.IsMeasured S.starts S.makes S.view S.waits S.keeps (pacing_of S.prices terms.now) (loop_on image.now cores room)) }
+    ensures is { IfOk result (spec.IsMeasured S.starts S.makes S.view S.waits S.keeps (pacing_of S.prices terms.now) (the_loop on.now)) }
     ensures few { IfOk result (λ told. IfSome told spec.HasFewSteps) }
 {
-    let run: EvenRun<S> = match run_evenly(alloc, image, cores, room, terms) {
+    let run: EvenRun<S> = match run_evenly(alloc, on, terms) {
         Ok(run) => run,
         Err(TurnFault::HistoryFull) => return Ok(None),
         Err(TurnFault::NoMemory) => return Err(AllocError),
     };
     run.book.look();
-    let kinds = kinds_of(alloc, image, cores, run.book.history())?;
+    let cores = on.cores;
+    let kinds = kinds_of(alloc, on.image, cores, run.book.history())?;
     Ok(Some(Measured {
         ran: run.ran,
         restarts: run.book.totals().restarts,

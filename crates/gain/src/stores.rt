@@ -1,6 +1,5 @@
 //! The lines of all stores.
 ghost use Rattle.std.specs.Prelude.{IfOk, OnOk, map};
-ghost use Rattle.violations.specs.Rule.{IsCoreCount};
 ghost use Rattle.trace_commands.specs.Stores.{store_named};
 ghost use Rattle.all_schedules.specs.Holding.{pieces_of};
 ghost use Rattle.all_schedules.specs.Stores.{RunsOn, RunsOnAll};
@@ -9,8 +8,9 @@ ghost use Rattle.gain.specs.Gains as spec;
 use crate::even_lines::push_evens;
 use crate::gains::Study;
 use crate::lines::{Waiting, push_lines};
+use crate::study_on::StudyOn;
 use crate::text::shows_held;
-use all_schedules::{Room, holds_at, holds_in_order, pieces_of, store_on};
+use all_schedules::{LoopOn, holds_at, holds_in_order, pieces_of, store_on};
 use even_speed::Terms;
 use rv32_image::Image;
 use spec_bus::CachedBus;
@@ -52,15 +52,12 @@ fn push_store(
     ensures { OnOk result (spec.AddStore study.now addresses.now image.now word.now (store_named word.now) text.old.items text.new.items) }
 {
     let (store, image) = store_on(alloc, image, study.cores, word)?;
-    push_lines_of(
-        alloc,
-        text,
-        word.as_bytes(),
-        &image,
+    let asked = StudyOn {
+        image: &image,
         study,
         addresses,
-        store,
-    )
+    };
+    push_lines_of(alloc, text, word.as_bytes(), &asked, store)
 }
 
 /// Adds the lines of this store, of the loop on its machine.
@@ -68,17 +65,14 @@ fn push_lines_of(
     alloc: Global,
     text: &mut Vec<u8>,
     word: &[u8],
-    image: &Image,
-    study: &Study,
-    addresses: &[u32],
+    asked: &StudyOn<'_>,
     store: Store,
 ) -> Result<(), AllocError>
-    requires cores { IsCoreCount image.now study.now.cores }
-    ensures { OnOk result (spec.AddLinesOf study.now addresses.now image.now store word.now text.old.items text.new.items) }
+    ensures { OnOk result (spec.AddLinesOf asked.now.study.now asked.now.addresses.now asked.now.image.now store word.now text.old.items text.new.items) }
 {
-    let waiting = waiting_over(alloc, image, study, addresses, store)?;
-    push_runs(alloc, text, word, image, study, store, &waiting)?;
-    push_evens_of(alloc, text, word, image, study, addresses, store)
+    let waiting = waiting_over(alloc, asked, store)?;
+    push_runs(alloc, text, word, asked, store, &waiting)?;
+    push_evens_of(alloc, text, word, asked, store)
 }
 
 /// Adds the lines of the runs over this store, on these terms.
@@ -86,19 +80,20 @@ fn push_runs(
     alloc: Global,
     text: &mut Vec<u8>,
     word: &[u8],
-    image: &Image,
-    study: &Study,
+    asked: &StudyOn<'_>,
     store: Store,
     waiting: &Waiting,
 ) -> Result<(), AllocError>
-    requires cores { IsCoreCount image.now study.now.cores }
-    ensures { OnOk result (spec.AddWaiting waiting.now image.now store study.now.cores study.now.room word.now text.old.items text.new.items) }
+    ensures { OnOk result (spec.AddWaiting waiting.now asked.now.image.now store asked.now.study.now.cores asked.now.study.now.room word.now text.old.items text.new.items) }
 {
-    let cores = study.cores;
-    let room = study.room;
+    let on = LoopOn {
+        image: asked.image,
+        cores: asked.study.cores.count(),
+        room: asked.study.room,
+    };
     match store {
-        Store::Caches(_) => push_lines::<CachedBus>(alloc, text, word, image, cores, room, waiting),
-        Store::Plain => push_lines::<PlainStore>(alloc, text, word, image, cores, room, waiting),
+        Store::Caches(_) => push_lines::<CachedBus>(alloc, text, word, &on, waiting),
+        Store::Plain => push_lines::<PlainStore>(alloc, text, word, &on, waiting),
     }
 }
 
@@ -107,60 +102,46 @@ fn push_evens_of(
     alloc: Global,
     text: &mut Vec<u8>,
     word: &[u8],
-    image: &Image,
-    study: &Study,
-    addresses: &[u32],
+    asked: &StudyOn<'_>,
     store: Store,
 ) -> Result<(), AllocError>
-    requires cores { IsCoreCount image.now study.now.cores }
-    ensures { OnOk result (spec.AddEvensOf study.now.even study.now addresses.now image.now store word.now text.old.items text.new.items) }
+    ensures { OnOk result (spec.AddEvensOf asked.now.study.now.even asked.now.study.now asked.now.addresses.now asked.now.image.now store word.now text.old.items text.new.items) }
 {
-    if !study.even {
+    if !asked.study.even {
         return Ok(());
     }
     match store {
-        Store::Caches(_) => push_evens::<CachedBus>(alloc, text, word, image, study, addresses),
-        Store::Plain => push_evens::<PlainStore>(alloc, text, word, image, study, addresses),
+        Store::Caches(_) => push_evens::<CachedBus>(alloc, text, word, asked),
+        Store::Plain => push_evens::<PlainStore>(alloc, text, word, asked),
     }
 }
 
 /// The loads at these addresses wait; and in the lines `held`, where they are asked for, those that read what earlier epochs store in order.
-fn waiting_over(
-    alloc: Global,
-    image: &Image,
-    study: &Study,
-    addresses: &[u32],
-    store: Store,
-) -> Result<Waiting, AllocError>
-    ensures { IfOk result (spec.AreWaiting image.now addresses.now study.now (pieces_of store)) }
+fn waiting_over(alloc: Global, asked: &StudyOn<'_>, store: Store) -> Result<Waiting, AllocError>
+    ensures { IfOk result (spec.AreWaiting asked.now.image.now asked.now.addresses.now asked.now.study.now (pieces_of store)) }
 {
-    let held = held_over(alloc, image, study, store)?;
+    let held = held_over(alloc, asked, store)?;
     let terms = Terms {
-        holds: holds_at(alloc, addresses)?,
-        queues: addresses.is_empty(),
-        costs: study.costs,
+        holds: holds_at(alloc, asked.addresses)?,
+        queues: asked.addresses.is_empty(),
+        costs: asked.study.costs,
     };
-    let told = shows_held(addresses);
+    let told = shows_held(asked.addresses);
     Ok(Waiting { terms, told, held })
 }
 
 /// Where lines `held` are asked for, the loads wait that read what earlier epochs store in order.
-fn held_over(
-    alloc: Global,
-    image: &Image,
-    study: &Study,
-    store: Store,
-) -> Result<Option<Terms>, AllocError>
-    ensures { IfOk result (spec.AreHeld image.now study.now.held (pieces_of store) study.now.costs) }
+fn held_over(alloc: Global, asked: &StudyOn<'_>, store: Store) -> Result<Option<Terms>, AllocError>
+    ensures { IfOk result (spec.AreHeld asked.now.image.now asked.now.study.now.held (pieces_of store) asked.now.study.now.costs) }
 {
-    if !study.held {
+    if !asked.study.held {
         return Ok(None);
     }
-    match holds_in_order(alloc, image, pieces_of(store)) {
+    match holds_in_order(alloc, asked.image, pieces_of(store)) {
         Ok(holds) => Ok(Some(Terms {
             holds,
             queues: false,
-            costs: study.costs,
+            costs: asked.study.costs,
         })),
         Err(_) => Err(AllocError),
     }

@@ -10,11 +10,13 @@ ghost use Rattle.gain.specs.Gains.{GainAnswers};
 ghost use Rattle.gain.specs.Work as spec;
 
 use crate::gains::{Study, do_gain};
-use all_schedules::{Room, addresses_of, costs_behind, wait_place, wait_words};
+use all_schedules::{
+    CoreCount, Room, StoreWords, addresses_of, costs_behind, stores_asked, wait_place, wait_words,
+};
 use std::alloc::{AllocError, Global};
 use std::convert::AsStr;
 use std::io::{Read, Write};
-use trace_commands::{CommandStop, Outcome, first_word, stores_asked};
+use trace_commands::{CommandStop, Outcome, first_word};
 
 /// The whole program: what the loop gains on as many cores as the words ask for, 1 to 16, over each of the stores that they name,
 /// `gain CORES STORE ..`; over caches and the plain store, where they name none. Behind these, with `--held`, also of held runs, and with
@@ -38,7 +40,8 @@ pub fn work<S: AsStr, R: Read, W: Write, E: Write>(
 {
     match study_asked(words, room) {
         Some((study, waits, stores)) => {
-            gain_over(alloc, &study, waits, stores, reader, writer, errors)
+            let stores = StoreWords { words: stores };
+            gain_over(alloc, &study, waits, &stores, reader, writer, errors)
         }
         None => Outcome::Usage.conclude(errors),
     }
@@ -49,7 +52,6 @@ pub fn work<S: AsStr, R: Read, W: Write, E: Write>(
 fn study_asked<S: AsStr>(words: &[S], room: Room) -> Option<(Study, &[S], &[S])>
     ensures asked { IfSome result (λ found. gain_asked_in (map S.text words.now)
         ≡ Some (record { cores = found.0.cores; stores = or_both (map S.text found.2.now); held = found.0.held; addresses = addresses_of (map S.text found.1.now); limits = found.0.limits; costs = found.0.costs; even = found.0.even })) }
-    ensures cores { IfSome result (λ found. 1 ≤ found.0.cores) }
     ensures room { IfSome result (λ found. found.0.room ≡ room) }
     ensures stores { IfSome result (λ found. list_all names_store (map S.text found.2.now) ≡ true) }
     ensures none { IfNone result (gain_asked_in (map S.text words.now) ≡ None) }
@@ -59,7 +61,9 @@ fn study_asked<S: AsStr>(words: &[S], room: Room) -> Option<(Study, &[S], &[S])>
         return None;
     };
     let (limits, words) = cut_limits(words);
-    let (cores, held, waits, stores) = waits_asked(words)?;
+    let Some((cores, held, waits, stores)) = waits_asked(words) else {
+        return None;
+    };
     let study = Study {
         cores,
         room,
@@ -74,17 +78,18 @@ fn study_asked<S: AsStr>(words: &[S], room: Room) -> Option<(Study, &[S], &[S])>
 /// How many cores the words ask for, whether held runs, and the words of addresses and of stores among them, `--limits` aside. None: they ask for
 /// nothing.
 #[tactic(auto, using(crate::proofs::Waiting::are_asked, crate::proofs::Waiting::no_waits, crate::proofs::Waiting::no_stores))]
-fn waits_asked<S: AsStr>(words: &[S]) -> Option<(u32, bool, &[S], &[S])>
+fn waits_asked<S: AsStr>(words: &[S]) -> Option<(CoreCount, bool, &[S], &[S])>
     ensures asked { IfSome result (λ found. (limits : Bool) → asked_before_limits limits (map S.text words.now)
         ≡ Some (record { cores = found.0; stores = or_both (map S.text found.3.now); held = found.1; addresses = addresses_of (map S.text found.2.now); limits = limits; costs = None; even = false })) }
-    ensures cores { IfSome result (λ found. 1 ≤ found.0) }
     ensures stores { IfSome result (λ found. list_all names_store (map S.text found.3.now) ≡ true) }
     ensures none { IfNone result ((limits : Bool) → asked_before_limits limits (map S.text words.now) ≡ None) }
 {
     let (before, behind) = words.split_at(wait_place(words));
     let waits = wait_words(behind)?;
     let (held, rest) = cut_held(before);
-    let (cores, stores) = stores_asked(rest)?;
+    let Some((cores, stores)) = stores_asked(rest) else {
+        return None;
+    };
     Some((cores, held, waits, stores))
 }
 
@@ -139,14 +144,12 @@ fn gain_over<S: AsStr, R: Read, W: Write, E: Write>(
     alloc: Global,
     study: &Study,
     waits: &[S],
-    stores: &[S],
+    stores: &StoreWords<'_, S>,
     reader: &mut R,
     writer: &mut W,
     errors: &mut E,
 ) -> u8
-    requires cores { 1 ≤ study.now.cores }
-    requires stores { list_all names_store (map S.text stores.now) ≡ true }
-    ensures outcome { ForText (R.remaining reader.old) (λ text. GainAnswers study.now (addresses_of (map S.text waits.now)) (or_both (map S.text stores.now)) text
+    ensures outcome { ForText (R.remaining reader.old) (λ text. GainAnswers study.now (addresses_of (map S.text waits.now)) (or_both (map S.text stores.now.words.now)) text
         (record { old = W.contents writer.old; new = W.contents writer.new }) (record { old = E.contents errors.old; new = E.contents errors.new }) result) }
     ensures taken { TakesAtMost (R.remaining reader.old) (R.remaining reader.new) (longest_image_text + 1) }
 {
@@ -170,21 +173,22 @@ fn gain_waiting<S: AsStr, R: Read, W: Write, E: Write>(
     alloc: Global,
     study: &Study,
     addresses: &[u32],
-    stores: &[S],
+    stores: &StoreWords<'_, S>,
     reader: &mut R,
     writer: &mut W,
     errors: &mut E,
 ) -> u8
-    requires cores { 1 ≤ study.now.cores }
-    requires stores { list_all names_store (map S.text stores.now) ≡ true }
-    ensures outcome { ForText (R.remaining reader.old) (λ text. GainAnswers study.now addresses.now (or_both (map S.text stores.now)) text
+    ensures outcome { ForText (R.remaining reader.old) (λ text. GainAnswers study.now addresses.now (or_both (map S.text stores.now.words.now)) text
         (record { old = W.contents writer.old; new = W.contents writer.new }) (record { old = E.contents errors.old; new = E.contents errors.new }) result) }
     ensures taken { TakesAtMost (R.remaining reader.old) (R.remaining reader.new) (longest_image_text + 1) }
 {
-    match first_word(stores) {
+    match first_word(stores.words) {
         Some(_) => do_gain(alloc, study, addresses, stores, reader, writer, errors),
         None => {
             let both = ["caches", "plain"];
+            let both = StoreWords {
+                words: both.as_slice(),
+            };
             do_gain(alloc, study, addresses, &both, reader, writer, errors)
         }
     }

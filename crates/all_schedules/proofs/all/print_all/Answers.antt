@@ -1,6 +1,6 @@
 use Rattle.std.proofs.Common.{ℕ, List, Vec, ap, subst, ◌∙◌}
 use Rattle.std.specs.declared.alloc.Global.{Global}
-use Rattle.all_schedules.specs.Made.{loop_on}
+use Rattle.all_schedules.specs.Made.{the_loop}
 use Rattle.all_schedules.specs.Schedules.{lists_of}
 use Rattle.all_schedules.specs.Survey.{Surveys}
 use Rattle.all_schedules.specs.SurveyText.{survey_text}
@@ -12,8 +12,8 @@ returns-in-Ok-print_survey g c =
       schedules = lists_of c.in-Ok.all.items;
       every = c.in-Ok.ensures;
       survey = survey;
-      surveys = subst (λ (l : List (Vec ℕ Global)). Surveys g.S.EpochStore.starts g.S.EpochStore.makes g.S.EpochStore.view g.S.EpochStore.waits (loop_on c.args.image.now c.args.cores c.args.room) (lists_of l) survey)
+      surveys = subst (λ (l : List (Vec ℕ Global)). Surveys g.S.EpochStore.starts g.S.EpochStore.makes g.S.EpochStore.view g.S.EpochStore.waits (the_loop c.args.on.now) (lists_of l) survey)
           c.as_slice.ensures.value c.in-Ok-survey_schedules.ensures.made;
       text_is = c.in-Ok-print_survey.ensures
-          ∙ ap (λ (l : List (Vec ℕ Global)). survey_text c.args.image.now (lists_of l) survey) c.as_slice-in-Ok-survey_schedules.ensures.value;
+          ∙ ap (λ (l : List (Vec ℕ Global)). survey_text c.args.on.now.image.now (lists_of l) survey) c.as_slice-in-Ok-survey_schedules.ensures.value;
     }

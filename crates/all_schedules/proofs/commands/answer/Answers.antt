@@ -73,4 +73,6 @@ returns-in-Threaded g c =
     (for_both input.old (λ text. Conclusion (IsThreadsOutcome (IsOfCaches view) c.args.settings.asked options text output.old output.new) errors.old errors.new c.do_threads.result)
     (TakesAtMost input.old input.new (longest_image_text + 1))
     (subst (λ (n : ℕ). ForText input.old (λ text. Conclusion (IsThreadsOutcome (IsOfCaches view) c.args.settings.asked (record options { room = n }) text output.old output.new) errors.old errors.new c.do_threads.result))
-    c.entries.ensures.value c.do_threads.ensures.outcome) c.do_threads.ensures.taken)
+    c.entries.ensures.value
+    (subst (λ (n : ℕ). ForText input.old (λ text. Conclusion (IsThreadsOutcome (IsOfCaches view) c.args.settings.asked (record options { cores = n; room = c.entries.result }) text output.old output.new) errors.old errors.new c.do_threads.result))
+    c.count.ensures.value c.do_threads.ensures.outcome)) c.do_threads.ensures.taken)

@@ -16,7 +16,7 @@ loop-taken-init g c = record {
   held = λ k. subst (λ o. IfArrived c.args.book.now.image o) (sym (none_held 16 k)) tt;
   shares = c.requires.shares;
   state = c.seed_from_u64-generator.ensures.same ∙ sym (state_none c.args.seed);
-  is_drawn = c.requires.schedule ∙ sym (drawn_none c.args.cores c.args.seed);
+  is_drawn = c.requires.schedule ∙ sym (drawn_none c.args.on.now.cores c.args.seed);
   few = omega arith;
   goes_on = λ m below. absurd (omega (arith, below));
   stopped = refl;
@@ -33,22 +33,22 @@ still_stopped now before cause is same fresh = absurd cc
 pub returns-in_err-answer-clause-drives : goal.returns-in_err-answer-clause-drives
 returns-in_err-answer-clause-drives g c =
     let p = err_from_is_err_and c.from_residual.result c.from_residual.ensures.1 in
-    rw (p.1, p.2) (λ _. drives_drawn g.S.EpochStore.makes g.S.EpochStore.view g.S.EpochStore.waits c.args.cores c.args.seed (c.loop-taken._taken + 1) (driver c.args.book.now c.args.shares.now) (driver c.step.new.book c.step.new.shares) c.push.new.self.items (Err c.in_err-answer.field-0.0) (more_drawn c.args.cores c.args.seed c.loop-taken._taken c.draw-core.result c.loop-taken.schedule.items c.push.new.self.items c.loop-taken.invariant.is_drawn (is_core c.args.cores c.args.seed c.loop-taken._taken c.loop-taken.generator c.draw-core.result c.loop-taken.invariant.state c.draw-core.ensures.core) c.in-Ok.ensures.items) (omega (arith, c.loop-taken-test.true))
-    (open_more g.S.EpochStore.makes g.S.EpochStore.view g.S.EpochStore.waits c.args.cores c.args.seed c.loop-taken._taken (driver c.args.book.now c.args.shares.now) (driver c.loop-taken.book c.loop-taken.shares) c.loop-taken.schedule.items
+    rw (p.1, p.2) (λ _. drives_drawn g.S.EpochStore.makes g.S.EpochStore.view g.S.EpochStore.waits c.args.on.now.cores c.args.seed (c.loop-taken._taken + 1) (driver c.args.book.now c.args.shares.now) (driver c.step.new.book c.step.new.shares) c.push.new.self.items (Err c.in_err-answer.field-0.0) (more_drawn c.args.on.now.cores c.args.seed c.loop-taken._taken c.draw-core.result c.loop-taken.schedule.items c.push.new.self.items c.loop-taken.invariant.is_drawn (is_core c.args.on.now.cores c.args.seed c.loop-taken._taken c.loop-taken.generator c.draw-core.result c.loop-taken.invariant.state c.draw-core.ensures.core) c.in-Ok.ensures.items) (omega (arith, c.loop-taken-test.true))
+    (open_more g.S.EpochStore.makes g.S.EpochStore.view g.S.EpochStore.waits c.args.on.now.cores c.args.seed c.loop-taken._taken (driver c.args.book.now c.args.shares.now) (driver c.loop-taken.book c.loop-taken.shares) c.loop-taken.schedule.items
     c.loop-taken.invariant.is_drawn c.loop-taken.invariant.goes_on (c.loop-taken.invariant.drives [] (Ok None) (driver c.loop-taken.book c.loop-taken.shares) (refl, refl))) (λ none fresh. absurd cc)
     (ends_fault g.S.EpochStore.makes g.S.EpochStore.view g.S.EpochStore.waits (harts_of c.loop-taken.held) (driver c.args.book.now c.args.shares.now) (driver c.loop-taken.book c.loop-taken.shares) (driver c.step.new.book c.step.new.shares) c.loop-taken.schedule.items c.push.new.self.items c.draw-core.result c.loop-taken.invariant.drives c.in-Ok.ensures.items c.in_err-answer.field-0.0 c.in_err-answer.ensures.turned))
 
 pub returns-in-Over-clause-drives : goal.returns-in-Over-clause-drives
 returns-in-Over-clause-drives g c _ =
-    drives_drawn g.S.EpochStore.makes g.S.EpochStore.view g.S.EpochStore.waits c.args.cores c.args.seed (c.loop-taken._taken + 1) (driver c.args.book.now c.args.shares.now) (driver c.step.new.book c.step.new.shares) c.push.new.self.items (Ok (Some c.in-Over.end)) (more_drawn c.args.cores c.args.seed c.loop-taken._taken c.draw-core.result c.loop-taken.schedule.items c.push.new.self.items c.loop-taken.invariant.is_drawn (is_core c.args.cores c.args.seed c.loop-taken._taken c.loop-taken.generator c.draw-core.result c.loop-taken.invariant.state c.draw-core.ensures.core) c.in-Ok.ensures.items) (omega (arith, c.loop-taken-test.true))
-    (open_more g.S.EpochStore.makes g.S.EpochStore.view g.S.EpochStore.waits c.args.cores c.args.seed c.loop-taken._taken (driver c.args.book.now c.args.shares.now) (driver c.loop-taken.book c.loop-taken.shares) c.loop-taken.schedule.items
+    drives_drawn g.S.EpochStore.makes g.S.EpochStore.view g.S.EpochStore.waits c.args.on.now.cores c.args.seed (c.loop-taken._taken + 1) (driver c.args.book.now c.args.shares.now) (driver c.step.new.book c.step.new.shares) c.push.new.self.items (Ok (Some c.in-Over.end)) (more_drawn c.args.on.now.cores c.args.seed c.loop-taken._taken c.draw-core.result c.loop-taken.schedule.items c.push.new.self.items c.loop-taken.invariant.is_drawn (is_core c.args.on.now.cores c.args.seed c.loop-taken._taken c.loop-taken.generator c.draw-core.result c.loop-taken.invariant.state c.draw-core.ensures.core) c.in-Ok.ensures.items) (omega (arith, c.loop-taken-test.true))
+    (open_more g.S.EpochStore.makes g.S.EpochStore.view g.S.EpochStore.waits c.args.on.now.cores c.args.seed c.loop-taken._taken (driver c.args.book.now c.args.shares.now) (driver c.loop-taken.book c.loop-taken.shares) c.loop-taken.schedule.items
     c.loop-taken.invariant.is_drawn c.loop-taken.invariant.goes_on (c.loop-taken.invariant.drives [] (Ok None) (driver c.loop-taken.book c.loop-taken.shares) (refl, refl))) (λ none fresh. absurd cc)
     (ends_over g.S.EpochStore.makes g.S.EpochStore.view g.S.EpochStore.waits (harts_of c.loop-taken.held) (driver c.args.book.now c.args.shares.now) (driver c.loop-taken.book c.loop-taken.shares) (driver c.step.new.book c.step.new.shares) c.loop-taken.schedule.items c.push.new.self.items c.draw-core.result c.loop-taken.invariant.drives c.in-Ok.ensures.items c.in_ok-answer.answer c.in-Over.end c.in-Over.is c.in_ok-answer.ensures.turned)
 
 pub returns-in-Stopped-clause-drives : goal.returns-in-Stopped-clause-drives
 returns-in-Stopped-clause-drives g c _ =
-    drives_drawn g.S.EpochStore.makes g.S.EpochStore.view g.S.EpochStore.waits c.args.cores c.args.seed (c.loop-taken._taken + 1) (driver c.args.book.now c.args.shares.now) (driver c.step.new.book c.step.new.shares) c.push.new.self.items (Ok None) (more_drawn c.args.cores c.args.seed c.loop-taken._taken c.draw-core.result c.loop-taken.schedule.items c.push.new.self.items c.loop-taken.invariant.is_drawn (is_core c.args.cores c.args.seed c.loop-taken._taken c.loop-taken.generator c.draw-core.result c.loop-taken.invariant.state c.draw-core.ensures.core) c.in-Ok.ensures.items) (omega (arith, c.loop-taken-test.true))
-    (open_more g.S.EpochStore.makes g.S.EpochStore.view g.S.EpochStore.waits c.args.cores c.args.seed c.loop-taken._taken (driver c.args.book.now c.args.shares.now) (driver c.loop-taken.book c.loop-taken.shares) c.loop-taken.schedule.items
+    drives_drawn g.S.EpochStore.makes g.S.EpochStore.view g.S.EpochStore.waits c.args.on.now.cores c.args.seed (c.loop-taken._taken + 1) (driver c.args.book.now c.args.shares.now) (driver c.step.new.book c.step.new.shares) c.push.new.self.items (Ok None) (more_drawn c.args.on.now.cores c.args.seed c.loop-taken._taken c.draw-core.result c.loop-taken.schedule.items c.push.new.self.items c.loop-taken.invariant.is_drawn (is_core c.args.on.now.cores c.args.seed c.loop-taken._taken c.loop-taken.generator c.draw-core.result c.loop-taken.invariant.state c.draw-core.ensures.core) c.in-Ok.ensures.items) (omega (arith, c.loop-taken-test.true))
+    (open_more g.S.EpochStore.makes g.S.EpochStore.view g.S.EpochStore.waits c.args.on.now.cores c.args.seed c.loop-taken._taken (driver c.args.book.now c.args.shares.now) (driver c.loop-taken.book c.loop-taken.shares) c.loop-taken.schedule.items
     c.loop-taken.invariant.is_drawn c.loop-taken.invariant.goes_on (c.loop-taken.invariant.drives [] (Ok None) (driver c.loop-taken.book c.loop-taken.shares) (refl, refl))) (λ none fresh. still_stopped c.loop-taken.book.stopped c.args.book.now.stopped c.in-Stopped.field-0 (c.in_ok-answer.ensures.stopped c.in-Stopped.field-0 (ap Ok c.in-Stopped.is)) c.loop-taken.invariant.stopped fresh)
     (ends_stopped g.S.EpochStore.makes g.S.EpochStore.view g.S.EpochStore.waits (harts_of c.loop-taken.held) (driver c.args.book.now c.args.shares.now) (driver c.loop-taken.book c.loop-taken.shares) (driver c.step.new.book c.step.new.shares) c.loop-taken.schedule.items c.push.new.self.items c.draw-core.result c.loop-taken.invariant.drives c.in-Ok.ensures.items c.in_ok-answer.answer c.in-Stopped.field-0 c.in-Stopped.is c.in_ok-answer.ensures.turned)
 
@@ -60,9 +60,9 @@ loop-taken-preserved g c =
       held = c.step.ensures.held;
       shares = c.step.ensures.shares;
       state = c.draw-core.ensures.state ∙ (ap next_state c.loop-taken.invariant.state ∙ more_state c.args.seed c.loop-taken._taken);
-      is_drawn = (more_drawn c.args.cores c.args.seed c.loop-taken._taken c.draw-core.result c.loop-taken.schedule.items c.push.new.self.items c.loop-taken.invariant.is_drawn (is_core c.args.cores c.args.seed c.loop-taken._taken c.loop-taken.generator c.draw-core.result c.loop-taken.invariant.state c.draw-core.ensures.core) c.in-Ok.ensures.items);
+      is_drawn = (more_drawn c.args.on.now.cores c.args.seed c.loop-taken._taken c.draw-core.result c.loop-taken.schedule.items c.push.new.self.items c.loop-taken.invariant.is_drawn (is_core c.args.on.now.cores c.args.seed c.loop-taken._taken c.loop-taken.generator c.draw-core.result c.loop-taken.invariant.state c.draw-core.ensures.core) c.in-Ok.ensures.items);
       few = omega (arith, c.loop-taken-test.true);
-      goes_on = open_more g.S.EpochStore.makes g.S.EpochStore.view g.S.EpochStore.waits c.args.cores c.args.seed c.loop-taken._taken (driver c.args.book.now c.args.shares.now) (driver c.loop-taken.book c.loop-taken.shares) c.loop-taken.schedule.items
+      goes_on = open_more g.S.EpochStore.makes g.S.EpochStore.view g.S.EpochStore.waits c.args.on.now.cores c.args.seed c.loop-taken._taken (driver c.args.book.now c.args.shares.now) (driver c.loop-taken.book c.loop-taken.shares) c.loop-taken.schedule.items
           c.loop-taken.invariant.is_drawn c.loop-taken.invariant.goes_on (c.loop-taken.invariant.drives [] (Ok None) (driver c.loop-taken.book c.loop-taken.shares) (refl, refl));
       stopped = c.step.ensures.grows.stopped ∙ c.loop-taken.invariant.stopped;
       drives = goes_on g.S.EpochStore.makes g.S.EpochStore.view g.S.EpochStore.waits (harts_of c.loop-taken.held) (driver c.args.book.now c.args.shares.now) (driver c.loop-taken.book c.loop-taken.shares) (driver c.step.new.book c.step.new.shares) c.loop-taken.schedule.items c.push.new.self.items c.draw-core.result c.loop-taken.invariant.drives c.in-Ok.ensures.items
@@ -74,7 +74,7 @@ all_taken taken few all = omega (arith, few, all)
 
 pub returns-clause-drives : goal.returns-clause-drives
 returns-clause-drives g c _ =
-    most_taken g.S.EpochStore.makes g.S.EpochStore.view g.S.EpochStore.waits c.args.cores c.args.seed (driver c.args.book.now c.args.shares.now) (driver c.loop-taken.book c.loop-taken.shares) c.loop-taken.schedule.items
-    (c.loop-taken.invariant.is_drawn ∙ ap (drawn c.args.cores c.args.seed) (all_taken c.loop-taken._taken c.loop-taken.invariant.few c.loop-taken-test.false))
+    most_taken g.S.EpochStore.makes g.S.EpochStore.view g.S.EpochStore.waits c.args.on.now.cores c.args.seed (driver c.args.book.now c.args.shares.now) (driver c.loop-taken.book c.loop-taken.shares) c.loop-taken.schedule.items
+    (c.loop-taken.invariant.is_drawn ∙ ap (drawn c.args.on.now.cores c.args.seed) (all_taken c.loop-taken._taken c.loop-taken.invariant.few c.loop-taken-test.false))
     (λ m below. c.loop-taken.invariant.goes_on m (subst (λ k. m < k) (sym (all_taken c.loop-taken._taken c.loop-taken.invariant.few c.loop-taken-test.false)) below))
     (c.loop-taken.invariant.drives [] (Ok None) (driver c.loop-taken.book c.loop-taken.shares) (refl, refl))

@@ -14,9 +14,9 @@ invariant-loop-taken g l = record {
   held : HaveArrived l.book.image l.held;
   shares : IsNoMore l.shares l.book.totals;
   state : l.generator ≡ state_after l.seed l._taken;
-  is_drawn : l.schedule.items ≡ drawn l.cores l.seed l._taken;
+  is_drawn : l.schedule.items ≡ drawn l.on.cores l.seed l._taken;
   few : l._taken ≤ most_turns;
-  goes_on : (m : ℕ) → m < l._taken → IsOpen g.S.EpochStore.makes g.S.EpochStore.view g.S.EpochStore.waits l.cores l.seed (driver l.initial.book l.initial.shares) m;
+  goes_on : (m : ℕ) → m < l._taken → IsOpen g.S.EpochStore.makes g.S.EpochStore.view g.S.EpochStore.waits l.on.cores l.seed (driver l.initial.book l.initial.shares) m;
   stopped : l.book.stopped ≡ l.initial.book.stopped;
   drives : (rest : List ℕ) (result : Result (Option End) TurnFault) (new : Driver g.row.S.Denot)
       → Driven g.S.EpochStore.makes g.S.EpochStore.view g.S.EpochStore.waits (harts_of l.held) (driver l.book l.shares) rest result new

@@ -2,7 +2,7 @@ use Rattle.std.proofs.Common.{Bool, MatchResult, subst}
 use Rattle.std.proofs.lemmas.Result.{MatchResult-weaker}
 use Rattle.even_speed.specs.Even.{pacing}
 use Rattle.even_speed.specs.Holds.{holding_of}
-use Rattle.all_schedules.specs.Made.{loop_on}
+use Rattle.all_schedules.specs.Made.{the_loop}
 use Rattle.all_schedules.specs.Paced.{IsEvenStop, IsEvenText}
 use Rattle.all_schedules.proofs.Paces.{even_stop, even_text}
 use Rattle.all_schedules.proofs.paced.show_even.Goals as goal
@@ -15,7 +15,7 @@ returns g c =
     let waits = g.S.EpochStore.waits in
     let prices = g.S.PricedStore.prices in
     let keeps = g.S.PricedStore.keeps in
-    let l = loop_on c.args.image.now c.args.cores c.args.room in
+    let l = the_loop c.args.on.now in
     let paced = λ (none : Bool). pacing prices (holding_of c.in-Ok.holds) none c.args.costs in
     MatchResult-weaker c.show_run.result
     (subst (λ (none : Bool). MatchResult c.show_run.result (λ shown. IsEvenText starts makes view waits keeps (paced none) l shown.0 shown.1.items) (IsEvenStop starts makes view waits keeps (paced none) l))

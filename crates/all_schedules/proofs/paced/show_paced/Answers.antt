@@ -1,5 +1,5 @@
 use Rattle.std.proofs.Common.{MatchResult, sym, subst}
-use Rattle.all_schedules.specs.Made.{loop_on}
+use Rattle.all_schedules.specs.Made.{the_loop}
 use Rattle.all_schedules.specs.declared.paced.Pace.{Pace}
 use Rattle.all_schedules.specs.Paced.{IsPacedStop, IsPacedText}
 use Rattle.all_schedules.proofs.paced.show_paced.Goals as goal
@@ -12,7 +12,7 @@ returns-in-Even g c =
     let waits = g.S.EpochStore.waits in
     let prices = g.S.PricedStore.prices in
     let keeps = g.S.PricedStore.keeps in
-    let l = loop_on c.args.image.now c.args.cores c.args.room in
+    let l = the_loop c.args.on.now in
     subst (λ (pace : Pace). MatchResult c.show_even.result (λ shown. IsPacedText starts makes view waits prices keeps c.args.addresses.now pace l shown.0 shown.1.items) (IsPacedStop starts makes view waits prices keeps c.args.addresses.now pace l))
     (sym c.in-Even.is) c.show_even.ensures
 
@@ -24,7 +24,7 @@ returns-in-Held g c =
     let waits = g.S.EpochStore.waits in
     let prices = g.S.PricedStore.prices in
     let keeps = g.S.PricedStore.keeps in
-    let l = loop_on c.args.image.now c.args.cores c.args.room in
+    let l = the_loop c.args.on.now in
     subst (λ (pace : Pace). MatchResult c.show_held.result (λ shown. IsPacedText starts makes view waits prices keeps c.args.addresses.now pace l shown.0 shown.1.items) (IsPacedStop starts makes view waits prices keeps c.args.addresses.now pace l))
     (sym c.in-Held.is) (c.show_held.ensures c.args.addresses.now)
 
@@ -36,6 +36,6 @@ returns-in-Seeded g c =
     let waits = g.S.EpochStore.waits in
     let prices = g.S.PricedStore.prices in
     let keeps = g.S.PricedStore.keeps in
-    let l = loop_on c.args.image.now c.args.cores c.args.room in
+    let l = the_loop c.args.on.now in
     subst (λ (pace : Pace). MatchResult c.show_seeded.result (λ shown. IsPacedText starts makes view waits prices keeps c.args.addresses.now pace l shown.0 shown.1.items) (IsPacedStop starts makes view waits prices keeps c.args.addresses.now pace l))
     (sym c.in-Seeded.is) (c.show_seeded.ensures c.args.addresses.now)

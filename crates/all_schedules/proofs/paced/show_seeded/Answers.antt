@@ -1,17 +1,13 @@
 use Rattle.std.proofs.Common.{◌≡◌, ◌++◌, List, ℕ, ap, subst, ◌∙◌, rules}
-use Rattle.homefree.specs.declared.book.Loop.{Loop}
 use Rattle.homefree.specs.declared.fault.TurnFault.{TurnFault}
 use Rattle.homefree.specs.declared.fault.TurnFault.TheVariants as fault
-use Rattle.all_schedules.specs.Made.{loop_on}
+use Rattle.all_schedules.specs.Made.{the_loop}
 use Rattle.all_schedules.specs.Drawn.{IsDrawnFault}
 use Rattle.all_schedules.specs.SurveyText.{turns_line}
 use Rattle.all_schedules.proofs.paced.show_seeded.Goals as goal
 
-pub print_turns-requires-clause-image : goal.print_turns-requires-clause-image
-print_turns-requires-clause-image g c κs within = ap (λ (l : Loop). l.image) c.in-Ok.ensures.made.loop
-
-pub print_turns-requires-clause-cores : goal.print_turns-requires-clause-cores
-print_turns-requires-clause-cores g c κs within = ap (λ (l : Loop). l.cores) c.in-Ok.ensures.made.loop
+pub print_turns-requires-clause-same : goal.print_turns-requires-clause-same
+print_turns-requires-clause-same g c κs within = c.in-Ok.ensures.made.loop
 
 pub returns-in-Ok-print_turns : goal.returns-in-Ok-print_turns
 returns-in-Ok-print_turns g c addresses =
@@ -28,4 +24,4 @@ returns-in-Ok-print_turns g c addresses =
 pub returns-in-Err-HistoryFull : goal.returns-in-Err-HistoryFull
 returns-in-Err-HistoryFull g c addresses =
     let is : c.in-Err-HistoryFull.field-0 ≡ fault.HistoryFull = search rules in
-    subst (λ (f : TurnFault). IsDrawnFault g.S.EpochStore.starts g.S.EpochStore.makes g.S.EpochStore.view g.S.EpochStore.waits (loop_on c.args.image.now c.args.cores c.args.room) c.args.seed f) is c.in-Err-HistoryFull.ensures.fault
+    subst (λ (f : TurnFault). IsDrawnFault g.S.EpochStore.starts g.S.EpochStore.makes g.S.EpochStore.view g.S.EpochStore.waits (the_loop c.args.on.now) c.args.seed f) is c.in-Err-HistoryFull.ensures.fault

@@ -5,7 +5,7 @@ use Rattle.homefree.specs.Driven.{driver}
 use Rattle.homefree.specs.LockView.{loop_of}
 use Rattle.turn_steps.specs.Stepped.{Stepped}
 use Rattle.turn_steps.proofs.Written.{first_but, grows_by}
-use Rattle.all_schedules.specs.Made.{loop_on}
+use Rattle.all_schedules.specs.Made.{the_loop}
 use Rattle.all_schedules.proofs.Drives.{made_history}
 use Rattle.all_schedules.proofs.Telling.{driven_by, has_begun, has_told, told_fault}
 use Rattle.all_schedules.proofs.told.step_schedule.Goals as goal
@@ -13,14 +13,14 @@ use Rattle.all_schedules.proofs.told.step_schedule.Goals as goal
 pub returns-clause-made : goal.returns-clause-made
 returns-clause-made g c =
     let new = c.in-Ok.ensures in
-    let room = new.room ∙ c.entries.ensures.value in
+    let room = new.room ∙ c.entries-room.ensures.value in
     let run = c.in-Ok-stepped.ensures in
     let same = run.same in
-    let loop : loop_of c.drive_steps-stepped.new.book ≡ loop_on c.args.image.now c.args.cores c.args.room =
+    let loop : loop_of c.drive_steps-stepped.new.book ≡ the_loop c.args.on.now =
     (λ k. record { image = (same.image ∙ new.image) k; cores = (same.cores ∙ new.cores) k; room = (same.room ∙ room) k }) in record {
       loop = loop;
       result = run.stepped.0;
-      makes = made_history g.S.EpochStore.starts g.S.EpochStore.makes g.S.EpochStore.view g.S.EpochStore.waits c.args.image.now c.args.cores c.args.room c.args.schedule.now c.in-Ok.book c.drive_steps-stepped.new.book c.in-Ok.shares
+      makes = made_history g.S.EpochStore.starts g.S.EpochStore.makes g.S.EpochStore.view g.S.EpochStore.waits c.args.on.now.image.now c.args.on.now.cores c.args.on.now.room c.args.schedule.now c.in-Ok.book c.drive_steps-stepped.new.book c.in-Ok.shares
           c.drive_steps-stepped.new.shares (Ok run.stepped.0) new.image new.cores room new.history new.totals new.store new.starts new.stopped new.shares loop c.look.ensures
           (driven_by g.S.EpochStore.makes g.S.EpochStore.view g.S.EpochStore.waits g.S.ShownStore.changes (driver c.in-Ok.book c.in-Ok.shares) c.args.schedule.now run.stepped.0
           (driver c.drive_steps-stepped.new.book c.drive_steps-stepped.new.shares) run.stepped.1 run.stepped.2);
@@ -29,7 +29,7 @@ returns-clause-made g c =
 pub returns-clause-head : goal.returns-clause-head
 returns-clause-head g c =
     let new = c.in-Ok.ensures in
-    let room = new.room ∙ c.entries.ensures.value in
+    let room = new.room ∙ c.entries-room.ensures.value in
     let run = c.in-Ok-stepped.ensures in
     let text = run.stepped.1 in (
       text ++ codes "end\n",
@@ -60,8 +60,8 @@ returns-clause-head g c =
 pub returns-in-Err-clause-begun : goal.returns-in-Err-clause-begun
 returns-in-Err-clause-begun g c =
     let new = c.in-Ok.ensures in
-    let room = new.room ∙ c.entries.ensures.value in
-    inr (has_begun g.S.EpochStore.starts g.S.EpochStore.makes g.S.EpochStore.view g.S.EpochStore.waits g.S.ShownStore.changes (loop_on c.args.image.now c.args.cores c.args.room) c.args.schedule.now c.in-Ok.book c.in-Ok.shares
+    let room = new.room ∙ c.entries-room.ensures.value in
+    inr (has_begun g.S.EpochStore.starts g.S.EpochStore.makes g.S.EpochStore.view g.S.EpochStore.waits g.S.ShownStore.changes (the_loop c.args.on.now) c.args.schedule.now c.in-Ok.book c.in-Ok.shares
     (g.W.Write.contents c.args.writer.now) (g.W.Write.contents c.drive_steps-stepped.new.writer) (record {
       loop = (λ k. record { image = new.image k; cores = new.cores k; room = room k });
       history = new.history;
@@ -74,9 +74,9 @@ returns-in-Err-clause-begun g c =
 pub returns-in_default-extend_from_slice-clause-begun : goal.returns-in_default-extend_from_slice-clause-begun
 returns-in_default-extend_from_slice-clause-begun g c =
     let new = c.in-Ok.ensures in
-    let room = new.room ∙ c.entries.ensures.value in
+    let room = new.room ∙ c.entries-room.ensures.value in
     let run = c.in-Ok-stepped.ensures in
-    inr (has_told g.S.EpochStore.starts g.S.EpochStore.makes g.S.EpochStore.view g.S.EpochStore.waits g.S.ShownStore.changes (loop_on c.args.image.now c.args.cores c.args.room) c.args.schedule.now c.in-Ok.book c.in-Ok.shares
+    inr (has_told g.S.EpochStore.starts g.S.EpochStore.makes g.S.EpochStore.view g.S.EpochStore.waits g.S.ShownStore.changes (the_loop c.args.on.now) c.args.schedule.now c.in-Ok.book c.in-Ok.shares
     run.stepped.0 (driver c.drive_steps-stepped.new.book c.drive_steps-stepped.new.shares) run.stepped.1 (g.W.Write.contents c.args.writer.now) (g.W.Write.contents c.drive_steps-stepped.new.writer)
     (record {
       loop = (λ k. record { image = new.image k; cores = new.cores k; room = room k });
@@ -91,12 +91,12 @@ returns-in_default-extend_from_slice-clause-begun g c =
 pub returns-in-Err-clause-fault : goal.returns-in-Err-clause-fault
 returns-in-Err-clause-fault g c =
     let new = c.in-Ok.ensures in
-    let room = new.room ∙ c.entries.ensures.value in
+    let room = new.room ∙ c.entries-room.ensures.value in
     let run = c.in-Err.ensures in
     let same = run.same in
-    let loop : loop_of c.drive_steps-stepped.new.book ≡ loop_on c.args.image.now c.args.cores c.args.room =
+    let loop : loop_of c.drive_steps-stepped.new.book ≡ the_loop c.args.on.now =
     (λ k. record { image = (same.image ∙ new.image) k; cores = (same.cores ∙ new.cores) k; room = (same.room ∙ room) k }) in
-    told_fault g.S.EpochStore.starts g.S.EpochStore.makes g.S.EpochStore.view g.S.EpochStore.waits (loop_on c.args.image.now c.args.cores c.args.room) c.args.schedule.now c.drive_steps-stepped.new.book.history c.in-Err.fault
-    (λ full. made_history g.S.EpochStore.starts g.S.EpochStore.makes g.S.EpochStore.view g.S.EpochStore.waits c.args.image.now c.args.cores c.args.room c.args.schedule.now c.in-Ok.book c.drive_steps-stepped.new.book c.in-Ok.shares
+    told_fault g.S.EpochStore.starts g.S.EpochStore.makes g.S.EpochStore.view g.S.EpochStore.waits (the_loop c.args.on.now) c.args.schedule.now c.drive_steps-stepped.new.book.history c.in-Err.fault
+    (λ full. made_history g.S.EpochStore.starts g.S.EpochStore.makes g.S.EpochStore.view g.S.EpochStore.waits c.args.on.now.image.now c.args.on.now.cores c.args.on.now.room c.args.schedule.now c.in-Ok.book c.drive_steps-stepped.new.book c.in-Ok.shares
     c.drive_steps-stepped.new.shares (Err HistoryFull) new.image new.cores room new.history new.totals new.store new.starts new.stopped new.shares loop c.look.ensures
     (run.full (ap Err full)))
