@@ -1,15 +1,14 @@
 //! Schedules in which a later epoch runs ahead of those before it.
 ghost use Rattle.std.specs.Prelude.{◌≡◌, ◌≤◌, ◌<◌, All, IfOk, IfSome};
-ghost use Rattle.violations.specs.Rule.{IsCoreCount};
 ghost use Rattle.homefree.specs.BookView.{IsOfSameLoop};
 ghost use Rattle.homefree.specs.Counted.{IsNoMore};
 ghost use Rattle.homefree.specs.Held.{HaveArrived};
 ghost use Rattle.depends.specs.Ahead as spec;
 
-use all_schedules::Room;
+use all_schedules::LoopOn;
 use homefree::{Answer, Book, TurnFault, step};
 use run_ledger::Shares;
-use rv32_exec::{Arrived, Image};
+use rv32_exec::Arrived;
 use spec_history::{Entry, What};
 use std::alloc::{AllocError, Global};
 use violations::{EpochStore, MAX_CORES};
@@ -19,20 +18,19 @@ const MOST_TURNS: u32 = 8_388_608;
 
 /// A schedule up to its first violation, if it comes to one. The epochs before the window of this one commit in order, on core 0. Then
 /// the epochs of the window start, one on each core; the last one runs as far as it comes, and then each one before it; at last they
-/// commit in order. The cores are at least 1.
+/// commit in order.
 ///
 /// `AllocError`: memory ran out.
 pub fn run_ahead<S: EpochStore>(
     alloc: Global,
-    image: &Image,
-    cores: u32,
-    room: Room,
+    on: &LoopOn<'_>,
     later: u32,
 ) -> Result<Vec<u32>, AllocError>
-    requires cores { IsCoreCount image.now cores }
-    ensures { IfOk result (λ schedule. All (λ core. core < cores) schedule.items) }
+    ensures { IfOk result (λ schedule. All (λ core. core < on.now.cores) schedule.items) }
 {
-    let made: Result<(Book<S>, Shares), _> = Book::new(alloc, image, cores, room.entries());
+    let cores = on.cores;
+    let room = on.room.entries();
+    let made: Result<(Book<S>, Shares), _> = Book::new(alloc, on.image, cores, room);
     let Ok((mut book, mut shares)) = made else {
         return Err(AllocError);
     };

@@ -1,6 +1,5 @@
 //! The line of a store: whether a schedule of so many cores can violate an epoch over it.
 ghost use Rattle.std.specs.Prelude.{◌≡◌, ◌++◌, IfOk, OnOk};
-ghost use Rattle.violations.specs.Rule.{IsCoreCount};
 ghost use Rattle.depends.specs.Line as spec;
 ghost use Rattle.depends.specs.Never.{IsKnown};
 
@@ -8,7 +7,7 @@ use crate::ahead::run_ahead;
 use crate::least::{Found, Grain, least_conflict};
 use crate::shown::{Met, Shown, show};
 use crate::text::{push_address, push_named, push_word};
-use all_schedules::{Room, push_turns};
+use all_schedules::{LoopOn, push_turns};
 use dependences::Dependence;
 use rv32_exec::Image;
 use std::alloc::{AllocError, Global};
@@ -42,25 +41,28 @@ pub struct Known<'a> {
     pub nearest: Option<u32>,
 }
 
-/// What is told of a store that watches so, and up to so many cores. The cores are at least 1.
+/// What is told of a store that watches so, and up to so many cores.
 ///
 /// `AllocError`: memory ran out.
 pub fn line_over<S: EpochStore>(
     alloc: Global,
-    image: &Image,
+    on: &LoopOn<'_>,
     grain: Grain,
-    cores: u32,
-    room: Room,
     known: Known<'_>,
 ) -> Result<Line, AllocError>
-    requires cores { IsCoreCount image.now cores }
-    requires known { IsKnown image.now grain known.epochs known.nearest }
-    ensures { IfOk result (spec.IsLine S.starts S.makes S.view S.waits image.now grain cores room) }
+    requires known { IsKnown on.now.image.now grain known.epochs known.nearest }
+    ensures { IfOk result (spec.IsLine S.starts S.makes S.view S.waits on.now.image.now grain on.now.cores on.now.room) }
 {
-    match least_conflict(alloc, image, grain, cores, known.epochs, known.nearest)? {
+    let cores = on.cores;
+    match least_conflict(alloc, on.image, grain, cores, known.epochs, known.nearest)? {
         Some(least) => {
-            let (from, to) = laters(image, known, least);
-            line_from::<S>(alloc, image, least.cores, room, from, to)
+            let (from, to) = laters(on.image, known, least);
+            let on = LoopOn {
+                image: on.image,
+                cores: least.cores,
+                room: on.room,
+            };
+            line_from::<S>(alloc, &on, from, to)
         }
         None => Ok(Line::Never),
     }
@@ -69,27 +71,24 @@ pub fn line_over<S: EpochStore>(
 /// The line from so many cores on, where one of these epochs, from the first up to the one before the last, is tried as the later one.
 fn line_from<S: EpochStore>(
     alloc: Global,
-    image: &Image,
-    cores: u32,
-    room: Room,
+    on: &LoopOn<'_>,
     from: u32,
     to: u32,
 ) -> Result<Line, AllocError>
-    requires cores { IsCoreCount image.now cores }
-    ensures { IfOk result (spec.IsFrom S.starts S.makes S.view S.waits image.now cores room) }
+    ensures { IfOk result (spec.IsFrom S.starts S.makes S.view S.waits on.now.image.now on.now.cores on.now.room) }
 {
     for later in from..to {
-        let turns = run_ahead::<S>(alloc, image, cores, room, later)?;
-        let shown = show::<S>(alloc, image, cores, room, turns.as_slice())?;
+        let turns = run_ahead::<S>(alloc, on, later)?;
+        let shown = show::<S>(alloc, on, turns.as_slice())?;
         if let Some(shown) = shown {
             return Ok(Line::From {
-                cores,
+                cores: on.cores,
                 turns,
                 shown,
             });
         }
     }
-    Ok(Line::Open { cores })
+    Ok(Line::Open { cores: on.cores })
 }
 
 /// The epochs that may be the later one of a conflict, from the first up to the one before the last.

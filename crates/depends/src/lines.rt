@@ -1,6 +1,5 @@
 //! All lines.
 ghost use Rattle.std.specs.Prelude.{◌≡◌, IfOk, OnOk, map};
-ghost use Rattle.violations.specs.Rule.{IsCoreCount};
 ghost use Rattle.trace_commands.specs.Stores.{store_named};
 ghost use Rattle.all_schedules.specs.Stores.{RunsOn, RunsOnAll};
 ghost use Rattle.dependences.specs.Kept.{AreAll};
@@ -11,7 +10,7 @@ use crate::least::Grain;
 use crate::line::{Known, Line, line_over, push_line};
 use crate::rows::rows_of;
 use crate::text::push_rows;
-use all_schedules::{Room, store_on};
+use all_schedules::{CoreCount, LoopOn, Room, store_on};
 use dependences::{Dependence, shown_in_order};
 use rv32_exec::Image;
 use spec_bus::CachedBus;
@@ -26,7 +25,7 @@ use violations::PlainStore;
 pub fn print_lines<S: AsStr>(
     alloc: Global,
     image: &Image,
-    cores: u32,
+    cores: CoreCount,
     stores: &[S],
     room: Room,
 ) -> Result<Vec<u8>, AllocError>
@@ -61,7 +60,7 @@ fn push_stores<S: AsStr>(
     alloc: Global,
     text: &mut Vec<u8>,
     image: &Image,
-    cores: u32,
+    cores: CoreCount,
     words: &[S],
     room: Room,
     known: Known<'_>,
@@ -82,7 +81,7 @@ fn push_store(
     alloc: Global,
     text: &mut Vec<u8>,
     image: &Image,
-    cores: u32,
+    cores: CoreCount,
     word: &str,
     room: Room,
     known: Known<'_>,
@@ -93,25 +92,27 @@ fn push_store(
     ensures { OnOk result (spec.AddStore image.now cores room word.now (store_named word.now) text.old.items text.new.items) }
 {
     let (store, image) = store_on(alloc, image, cores, word)?;
-    let line = line_of(alloc, &image, store, cores, room, known)?;
-    push_line(text, word, cores, &line)
+    let on = LoopOn {
+        image: &image,
+        cores: cores.count(),
+        room,
+    };
+    let line = line_of(alloc, &on, store, known)?;
+    push_line(text, word, on.cores, &line)
 }
 
 /// What is told of a store, of the loop on its machine.
 fn line_of(
     alloc: Global,
-    image: &Image,
+    on: &LoopOn<'_>,
     store: Store,
-    cores: u32,
-    room: Room,
     known: Known<'_>,
 ) -> Result<Line, AllocError>
-    requires cores { IsCoreCount image.now cores }
-    requires known { spec.IsKnownOn image.now store known.epochs known.nearest }
-    ensures { IfOk result (spec.IsLineOf image.now store cores room) }
+    requires known { spec.IsKnownOn on.now.image.now store known.epochs known.nearest }
+    ensures { IfOk result (spec.IsLineOf on.now.image.now store on.now.cores on.now.room) }
 {
     match store {
-        Store::Caches(_) => line_over::<CachedBus>(alloc, image, Grain::Lines, cores, room, known),
-        Store::Plain => line_over::<PlainStore>(alloc, image, Grain::Bytes, cores, room, known),
+        Store::Caches(_) => line_over::<CachedBus>(alloc, on, Grain::Lines, known),
+        Store::Plain => line_over::<PlainStore>(alloc, on, Grain::Bytes, known),
     }
 }

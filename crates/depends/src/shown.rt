@@ -1,11 +1,10 @@
 //! A violation that a schedule makes.
 ghost use Rattle.std.specs.Prelude.{◌≡◌, ◌<◌, All, IfOk, IfSome};
-ghost use Rattle.violations.specs.Rule.{IsCoreCount};
-ghost use Rattle.all_schedules.specs.Made.{loop_on};
+ghost use Rattle.all_schedules.specs.Made.{the_loop};
 ghost use Rattle.conflicts.specs.Explained.{IsExplained};
 ghost use Rattle.depends.specs.Shown as spec;
 
-use all_schedules::{Room, drive_schedule};
+use all_schedules::{LoopOn, drive_schedule};
 use conflicts::{Blame, Explanation, Site, explain, sites};
 use homefree::{Book, TurnFault};
 use rv32_exec::Image;
@@ -33,24 +32,23 @@ pub struct Shown {
     pub met: Met,
 }
 
-/// The first violation that a schedule makes over a fresh store. None: it makes none, or its history is full before. The cores are at
-/// least 1.
+/// The first violation that a schedule makes over a fresh store. None: it makes none, or its history is full before.
 ///
 /// `AllocError`: memory ran out.
 pub fn show<S: EpochStore>(
     alloc: Global,
-    image: &Image,
-    cores: u32,
-    room: Room,
+    on: &LoopOn<'_>,
     schedule: &[u32],
 ) -> Result<Option<Shown>, AllocError>
-    requires cores { IsCoreCount image.now cores }
-    requires schedule { All (λ core. core < cores) schedule.now }
-    ensures { IfOk result (λ shown. IfSome shown (spec.IsShown S.starts S.makes S.view S.waits (loop_on image.now cores room) schedule.now)) }
+    requires schedule { All (λ core. core < on.now.cores) schedule.now }
+    ensures { IfOk result (λ shown. IfSome shown (spec.IsShown S.starts S.makes S.view S.waits (the_loop on.now) schedule.now)) }
 {
-    let made: Result<Book<S>, TurnFault> = drive_schedule(alloc, image, cores, room, schedule);
+    let made: Result<Book<S>, TurnFault> = drive_schedule(alloc, on, schedule);
     match made {
-        Ok(book) => first_of(alloc, image, cores, book.history()),
+        Ok(book) => {
+            let cores = on.cores;
+            first_of(alloc, on.image, cores, book.history())
+        }
         Err(TurnFault::HistoryFull) => Ok(None),
         Err(TurnFault::NoMemory) => Err(AllocError),
     }

@@ -1,14 +1,14 @@
-ghost use Rattle.std.specs.Prelude.{◌≡◌, ◌≤◌, ◌+◌, true, map};
-ghost use Rattle.std.specs.List.{list_all};
+ghost use Rattle.std.specs.Prelude.{◌≡◌, ◌+◌, map};
 ghost use Rattle.rv32_image.specs.ImageText.{longest_image_text};
 ghost use Rattle.rv32_image.specs.Input.{TakesAtMost};
 ghost use Rattle.rv32_image.specs.Reading.{ForText};
 ghost use Rattle.depends.specs.Answers.{DependsAnswers};
-ghost use Rattle.trace_commands.specs.Stores.{names_store, or_both};
+ghost use Rattle.trace_commands.specs.Program.{IsUpTo16};
+ghost use Rattle.trace_commands.specs.Stores.{or_both};
 ghost use Rattle.depends.specs.Work as spec;
 
 use crate::answer::do_depends;
-use all_schedules::Room;
+use all_schedules::{CoreCount, Room, StoreWords};
 use std::alloc::Global;
 use std::convert::AsStr;
 use std::io::{Read, Write};
@@ -32,7 +32,10 @@ pub fn work<S: AsStr, R: Read, W: Write, E: Write>(
         (record { old = E.contents errors.old; new = E.contents errors.new }) result) }
 {
     match stores_asked(words) {
-        Some((cores, stores)) => do_asked(alloc, cores, stores, room, reader, writer, errors),
+        Some((cores, stores)) => {
+            let stores = StoreWords { words: stores };
+            do_asked(alloc, cores, &stores, room, reader, writer, errors)
+        }
         None => Outcome::Usage.conclude(errors),
     }
 }
@@ -42,28 +45,26 @@ pub fn work<S: AsStr, R: Read, W: Write, E: Write>(
 fn do_asked<S: AsStr, R: Read, W: Write, E: Write>(
     alloc: Global,
     cores: u32,
-    stores: &[S],
+    stores: &StoreWords<'_, S>,
     room: Room,
     reader: &mut R,
     writer: &mut W,
     errors: &mut E,
 ) -> u8
-    requires cores { 1 ≤ cores }
-    requires stores { list_all names_store (map S.text stores.now) ≡ true }
-    ensures outcome { ForText (R.remaining reader.old) (λ text. DependsAnswers cores (or_both (map S.text stores.now)) room text
+    requires cores { IsUpTo16 cores }
+    ensures outcome { ForText (R.remaining reader.old) (λ text. DependsAnswers cores (or_both (map S.text stores.now.words.now)) room text
         (record { old = W.contents writer.old; new = W.contents writer.new }) (record { old = E.contents errors.old; new = E.contents errors.new }) result) }
     ensures taken { TakesAtMost (R.remaining reader.old) (R.remaining reader.new) (longest_image_text + 1) }
 {
-    match first_word(stores) {
-        None => do_depends(
-            alloc,
-            cores,
-            &["caches", "plain"],
-            room,
-            reader,
-            writer,
-            errors,
-        ),
+    let cores = CoreCount::new(cores);
+    match first_word(stores.words) {
+        None => {
+            let both = ["caches", "plain"];
+            let both = StoreWords {
+                words: both.as_slice(),
+            };
+            do_depends(alloc, cores, &both, room, reader, writer, errors)
+        }
         Some(_) => do_depends(alloc, cores, stores, room, reader, writer, errors),
     }
 }

@@ -1,5 +1,6 @@
 use Rattle.std.proofs.Common.{map, sym}
 use Rattle.trace_commands.specs.Stores.{or_both}
+use Rattle.all_schedules.proofs.Asking.{few_asked}
 use Rattle.depends.proofs.Answering.{depends_answers, refused_answers}
 use Rattle.depends.proofs.work.work.Goals as goal
 
@@ -16,3 +17,6 @@ returns-in-None g c =
     refused_answers (map g.S.AsStr.text c.args.words.now) c.args.room (g.R.Read.remaining c.args.reader.now) (g.W.Write.contents c.args.writer.now)
     (record { old = g.E.Write.contents c.args.errors.now; new = g.E.Write.contents c.conclude.new.errors })
     c.conclude.result (sym c.in-None.ensures.none) c.conclude.ensures.status c.conclude.ensures.line
+
+pub do_asked-requires : goal.do_asked-requires
+do_asked-requires g c = record { cores = few_asked (map g.S.AsStr.text c.args.words.now) _ c.in-Some.ensures.asked }
