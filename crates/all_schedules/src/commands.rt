@@ -9,9 +9,9 @@ ghost use Rattle.all_schedules.specs.Work as spec;
 
 use crate::addresses::addresses_of;
 use crate::all::do_all;
+use crate::invocation::Invocation;
 use crate::paced::{PaceAsked, do_paced};
 use crate::replay::do_replay;
-use crate::room::Room;
 use crate::settings::Settings;
 use crate::words::{Turns, asked_of};
 use core_threads::Gate;
@@ -35,53 +35,60 @@ use violations::PlainStore;
 pub fn work<S: AsStr, G: Gate, T: Threads + Wait + Sync, R: Read, W: Write, E: Write>(
     rt: &T,
     alloc: Global,
-    words: &[S],
-    room: Room,
+    called: Invocation<'_, S>,
     gate: &G,
     reader: &mut R,
     writer: &mut W,
     errors: &mut E,
 ) -> u8
-    requires most { room ≤ 1048576 }
-    ensures { ForText (R.remaining reader.old) (λ text. spec.WorkAnswers (map S.text words.now) room text
+    requires { called.room ≤ 1048576 }
+    ensures { ForText (R.remaining reader.old) (λ text. spec.WorkAnswers (map S.text called.entry.words.now) called.entry.room text
         (record { old = R.remaining reader.old; new = R.remaining reader.new })
         (record { old = W.contents writer.old; new = W.contents writer.new })
         (record { old = E.contents errors.old; new = E.contents errors.new }) result) }
 {
+    let Invocation { words, room } = called;
     match asked_of(words) {
         Some((request, waits)) => match request.store {
-            Store::Caches(asked) => {
-                let settings = Settings { asked, room };
-                answer::<CachedBus, S, G, T, R, W, E>(
-                    rt,
-                    alloc,
+            Store::Caches(machine) => {
+                let asked = TurnsAsked {
                     waits,
-                    request.turns,
-                    settings,
-                    gate,
-                    reader,
-                    writer,
-                    errors,
+                    turns: request.turns,
+                    settings: Settings {
+                        asked: machine,
+                        room,
+                    },
+                };
+                answer::<CachedBus, S, G, T, R, W, E>(
+                    rt, alloc, &asked, gate, reader, writer, errors,
                 )
             }
             Store::Plain => {
-                let asked = MachineAsked::NOTHING;
-                let settings = Settings { asked, room };
-                answer::<PlainStore, S, G, T, R, W, E>(
-                    rt,
-                    alloc,
+                let settings = Settings {
+                    asked: MachineAsked::NOTHING,
+                    room,
+                };
+                let asked = TurnsAsked {
                     waits,
-                    request.turns,
+                    turns: request.turns,
                     settings,
-                    gate,
-                    reader,
-                    writer,
-                    errors,
+                };
+                answer::<PlainStore, S, G, T, R, W, E>(
+                    rt, alloc, &asked, gate, reader, writer, errors,
                 )
             }
         },
         None => Outcome::Usage.conclude(errors),
     }
+}
+
+/// Which turns are asked for.
+#[derive(Drop)]
+struct TurnsAsked<'a, A> {
+    /// The words that write the addresses at which loads wait.
+    waits: &'a [A],
+    turns: Turns,
+    settings: Settings,
 }
 
 /// Takes these turns over this store.
@@ -96,21 +103,20 @@ fn answer<
 >(
     rt: &T,
     alloc: Global,
-    waits: &[A],
-    turns: Turns,
-    settings: Settings,
+    asked: &TurnsAsked<'_, A>,
     gate: &G,
     reader: &mut R,
     writer: &mut W,
     errors: &mut E,
 ) -> u8
-    requires { settings.room ≤ 1048576 }
-    ensures { ForText (R.remaining reader.old) (λ text. spec.TurnsAnswer S.starts S.makes S.view S.waits S.prices S.keeps S.changes (addresses_of (map A.text waits.now)) settings turns text
+    requires { asked.now.settings.room ≤ 1048576 }
+    ensures { ForText (R.remaining reader.old) (λ text. spec.TurnsAnswer S.starts S.makes S.view S.waits S.prices S.keeps S.changes (addresses_of (map A.text asked.now.waits.now)) asked.now.settings asked.now.turns text
         (record { old = R.remaining reader.old; new = R.remaining reader.new })
         (record { old = W.contents writer.old; new = W.contents writer.new })
         (record { old = E.contents errors.old; new = E.contents errors.new }) result) }
 {
-    match turns {
+    let settings = asked.settings;
+    match asked.turns {
         Turns::Given { detail, cores } => {
             do_replay::<S, R, W, E>(alloc, detail, cores, settings, reader, writer, errors)
         }
@@ -118,12 +124,12 @@ fn answer<
             do_all::<S, R, W, E>(alloc, cores, settings, turns, reader, writer, errors)
         }
         Turns::Paced { pace, cores } => {
-            let asked = PaceAsked {
+            let paced = PaceAsked {
                 pace,
                 cores,
                 settings,
             };
-            pace_waiting::<S, A, R, W, E>(alloc, waits, asked, reader, writer, errors)
+            pace_waiting::<S, A, R, W, E>(alloc, asked.waits, paced, reader, writer, errors)
         }
         Turns::Threaded { cores } => {
             let options = RunOptions {
@@ -131,11 +137,11 @@ fn answer<
                 room: settings.room.entries(),
                 trace: true,
             };
-            let asked = RunAsked {
+            let run = RunAsked {
                 machine: settings.asked,
                 options,
             };
-            do_threads::<S, G, T, R, W, E>(rt, alloc, asked, gate, reader, writer, errors)
+            do_threads::<S, G, T, R, W, E>(rt, alloc, run, gate, reader, writer, errors)
         }
     }
 }

@@ -12,6 +12,7 @@ mod drawing;
 mod driving;
 mod even;
 mod holds;
+mod invocation;
 mod laws;
 mod loop_on;
 mod paced;
@@ -39,6 +40,7 @@ pub use detail::Detail;
 pub use driving::drive_schedule;
 pub use even::{EvenRun, run_evenly};
 pub use holds::{holds_at, holds_in_order, pieces_of};
+pub use invocation::Invocation;
 pub use laws::{
     drawn_history_is_fixed, even_history_is_fixed, history_is_fixed, text_is_fixed,
     trace_is_made_again,
@@ -54,3 +56,4 @@ pub use store_words::StoreWords;
 pub use stores::{check_stores, store_on};
 pub use survey::{Extreme, Survey, survey_schedules};
 pub use text::{print_survey, push_turns};
+pub use traced::turns_of;

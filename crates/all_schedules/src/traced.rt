@@ -154,8 +154,10 @@ fn is_same<S: EpochStore>(book: &Book<S>, entries: &[Entry]) -> Result<(), Outco
     }
 }
 
-/// The schedule of a trace.
-fn turns_of(alloc: Global, cores: u32, entries: &[Entry]) -> Result<Vec<u32>, AllocError>
+/// The turns that entries show, in order: of a history's those that make it.
+///
+/// `AllocError`: memory ran out.
+pub fn turns_of(alloc: Global, cores: u32, entries: &[Entry]) -> Result<Vec<u32>, AllocError>
     ensures { IfOk result (λ schedule. schedule.items ≡ shown.turns_of cores entries.now) }
 {
     let mut schedule = Vec::new(alloc);

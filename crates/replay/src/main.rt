@@ -2,7 +2,7 @@
 //! trace, and prints what exactly that schedule makes, over the store `caches` or `plain`; and runs on threads over that store.
 #![tactic(auto)]
 
-use all_schedules::{Room, work};
+use all_schedules::{Invocation, Room, work};
 use core_threads::Open;
 use std::alloc::Global;
 use std::process::ExitCode;
@@ -10,16 +10,21 @@ use trace_commands::{ROOM, spelled_words_given};
 
 fn main(rt: HostRuntime) -> ExitCode {
     let status = match spelled_words_given(&rt) {
-        Ok(words) => work(
-            &rt,
-            rt.alloc(),
-            words.as_slice(),
-            Room::new(ROOM),
-            &Open,
-            &mut rt.stdin(),
-            &mut rt.stdout(),
-            &mut rt.stderr(),
-        ),
+        Ok(words) => {
+            let called = Invocation {
+                words: words.as_slice(),
+                room: Room::new(ROOM),
+            };
+            work(
+                &rt,
+                rt.alloc(),
+                called,
+                &Open,
+                &mut rt.stdin(),
+                &mut rt.stdout(),
+                &mut rt.stderr(),
+            )
+        }
         Err(outcome) => outcome.conclude(&mut rt.stderr()),
     };
     ExitCode::from(status)

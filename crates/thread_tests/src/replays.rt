@@ -1,10 +1,12 @@
 //! `replay`: a history that is full is told as such, and not as want of memory, which no contract can say; and what the words of a store
 //! ask for.
+ghost use Rattle.std.specs.Prelude.{◌≤◌};
 
 use crate::words::{cell, is_row, number};
-use all_schedules::{Room, work};
+use all_schedules::{Invocation, Room, work};
 use core_threads::Open;
 use std::alloc::Global;
+use std::convert::AsStr;
 use std::process::Abort;
 use std::sync::Wait;
 use std::test::Fail;
@@ -116,21 +118,36 @@ struct Run<'a> {
     errors: &'static str,
 }
 
+/// The status of the program, with these words, so much room and this input. It adds what it writes, and its line of an error.
+fn status_of<S: AsStr, T: Threads + Wait + Sync>(
+    rt: &T,
+    alloc: Global,
+    words: &[S],
+    room: Room,
+    input: &str,
+    written: &mut Vec<u8>,
+    told: &mut Vec<u8>,
+) -> u8
+    requires { room ≤ 1048576 }
+{
+    let mut reader = input.as_bytes();
+    let called = Invocation { words, room };
+    work(rt, alloc, called, &Open, &mut reader, written, told)
+}
+
 /// Whether the program, with these words and so much room, ends so.
 fn ends<T: Abort + Threads + Wait + Sync>(rt: &T, alloc: Global, run: &Run) -> Result<bool, Fail> {
     let room = run.room;
     assert!(rt; 16 <= room && room <= 1_048_576);
     let words = words_of(alloc, run.words)?;
-    let mut reader = run.input.as_bytes();
     let mut written = Vec::new(alloc);
     let mut told = Vec::new(alloc);
-    let status = work(
+    let status = status_of(
         rt,
         alloc,
         words.as_slice(),
         Room::new(room),
-        &Open,
-        &mut reader,
+        run.input,
         &mut written,
         &mut told,
     );

@@ -6,23 +6,28 @@ use core_threads::Open;
 use std::alloc::Global;
 use std::process::ExitCode;
 use trace_commands::{ROOM, words_given};
-use work::work;
+use work::{Invocation, work};
 
 mod words;
 mod work;
 
 fn main(rt: HostRuntime) -> ExitCode {
     let status = match words_given(&rt) {
-        Ok(words) => work(
-            &rt,
-            rt.alloc(),
-            words.as_slice(),
-            ROOM,
-            &Open,
-            &mut rt.stdin(),
-            &mut rt.stdout(),
-            &mut rt.stderr(),
-        ),
+        Ok(words) => {
+            let called = Invocation {
+                words: words.as_slice(),
+                room: ROOM,
+            };
+            work(
+                &rt,
+                rt.alloc(),
+                called,
+                &Open,
+                &mut rt.stdin(),
+                &mut rt.stdout(),
+                &mut rt.stderr(),
+            )
+        }
         Err(outcome) => outcome.conclude(&mut rt.stderr()),
     };
     ExitCode::from(status)

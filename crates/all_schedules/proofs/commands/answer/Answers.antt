@@ -27,8 +27,8 @@ returns-in-Every g c =
     let input : Stream = record { old = g.R.Read.remaining c.args.reader.now; new = g.R.Read.remaining c.do_all.new.reader } in
     let output : Stream = record { old = g.W.Write.contents c.args.writer.now; new = g.W.Write.contents c.do_all.new.writer } in
     let errors : Stream = record { old = g.E.Write.contents c.args.errors.now; new = g.E.Write.contents c.do_all.new.errors } in
-    subst (λ (turns : Turns). ForText input.old (λ text. TurnsAnswer starts makes view waits g.S.PricedStore.prices g.S.PricedStore.keeps g.S.ShownStore.changes (addresses_of (map g.A.AsStr.text c.args.waits.now)) c.args.settings turns text input output errors c.do_all.result)) (sym c.in-Every.is)
-    (for_both input.old (λ text. AllAnswers starts makes view waits cores c.args.settings c.in-Every.turns text output errors c.do_all.result)
+    subst (λ (turns : Turns). ForText input.old (λ text. TurnsAnswer starts makes view waits g.S.PricedStore.prices g.S.PricedStore.keeps g.S.ShownStore.changes (addresses_of (map g.A.AsStr.text c.args.asked.now.waits.now)) c.args.asked.now.settings turns text input output errors c.do_all.result)) (sym c.in-Every.is)
+    (for_both input.old (λ text. AllAnswers starts makes view waits cores c.args.asked.now.settings c.in-Every.turns text output errors c.do_all.result)
     (TakesAtMost input.old input.new (longest_image_text + 1)) c.do_all.ensures.outcome c.do_all.ensures.taken)
 
 pub returns-in-Given : goal.returns-in-Given
@@ -41,8 +41,8 @@ returns-in-Given g c =
     let input : Stream = record { old = g.R.Read.remaining c.args.reader.now; new = g.R.Read.remaining c.do_replay.new.reader } in
     let output : Stream = record { old = g.W.Write.contents c.args.writer.now; new = g.W.Write.contents c.do_replay.new.writer } in
     let errors : Stream = record { old = g.E.Write.contents c.args.errors.now; new = g.E.Write.contents c.do_replay.new.errors } in
-    subst (λ (turns : Turns). ForText input.old (λ text. TurnsAnswer starts makes view waits g.S.PricedStore.prices g.S.PricedStore.keeps g.S.ShownStore.changes (addresses_of (map g.A.AsStr.text c.args.waits.now)) c.args.settings turns text input output errors c.do_replay.result)) (sym c.in-Given.is)
-    (for_both input.old (λ text. Conclusion (IsReplayOutcome starts makes view waits (IsHead starts makes view waits g.S.ShownStore.changes c.in-Given.detail) cores c.args.settings text output.old output.new) errors.old errors.new c.do_replay.result)
+    subst (λ (turns : Turns). ForText input.old (λ text. TurnsAnswer starts makes view waits g.S.PricedStore.prices g.S.PricedStore.keeps g.S.ShownStore.changes (addresses_of (map g.A.AsStr.text c.args.asked.now.waits.now)) c.args.asked.now.settings turns text input output errors c.do_replay.result)) (sym c.in-Given.is)
+    (for_both input.old (λ text. Conclusion (IsReplayOutcome starts makes view waits (IsHead starts makes view waits g.S.ShownStore.changes c.in-Given.detail) cores c.args.asked.now.settings text output.old output.new) errors.old errors.new c.do_replay.result)
     (TakesAtMost input.old input.new (longest_trace_text + 1)) c.do_replay.ensures.outcome c.do_replay.ensures.taken)
 
 pub returns-in-Paced : goal.returns-in-Paced
@@ -55,8 +55,8 @@ returns-in-Paced g c =
     let input : Stream = record { old = g.R.Read.remaining c.args.reader.now; new = g.R.Read.remaining c.pace_waiting.new.reader } in
     let output : Stream = record { old = g.W.Write.contents c.args.writer.now; new = g.W.Write.contents c.pace_waiting.new.writer } in
     let errors : Stream = record { old = g.E.Write.contents c.args.errors.now; new = g.E.Write.contents c.pace_waiting.new.errors } in
-    subst (λ (turns : Turns). ForText input.old (λ text. TurnsAnswer starts makes view waits g.S.PricedStore.prices g.S.PricedStore.keeps g.S.ShownStore.changes (addresses_of (map g.A.AsStr.text c.args.waits.now)) c.args.settings turns text input output errors c.pace_waiting.result)) (sym c.in-Paced.is)
-    (for_both input.old (λ text. Conclusion (IsPacedOutcome starts makes view waits g.S.PricedStore.prices g.S.PricedStore.keeps (addresses_of (map g.A.AsStr.text c.args.waits.now)) c.in-Paced.pace cores c.args.settings text output.old output.new) errors.old errors.new c.pace_waiting.result)
+    subst (λ (turns : Turns). ForText input.old (λ text. TurnsAnswer starts makes view waits g.S.PricedStore.prices g.S.PricedStore.keeps g.S.ShownStore.changes (addresses_of (map g.A.AsStr.text c.args.asked.now.waits.now)) c.args.asked.now.settings turns text input output errors c.pace_waiting.result)) (sym c.in-Paced.is)
+    (for_both input.old (λ text. Conclusion (IsPacedOutcome starts makes view waits g.S.PricedStore.prices g.S.PricedStore.keeps (addresses_of (map g.A.AsStr.text c.args.asked.now.waits.now)) c.in-Paced.pace cores c.args.asked.now.settings text output.old output.new) errors.old errors.new c.pace_waiting.result)
     (TakesAtMost input.old input.new (longest_image_text + 1)) c.pace_waiting.ensures.outcome c.pace_waiting.ensures.taken)
 
 pub returns-in-Threaded : goal.returns-in-Threaded
@@ -65,14 +65,14 @@ returns-in-Threaded g c =
     let makes = g.S.EpochStore.makes in
     let view = g.S.EpochStore.view in
     let waits = g.S.EpochStore.waits in
-    let options = options_of c.args.settings c.in-Threaded.cores in
+    let options = options_of c.args.asked.now.settings c.in-Threaded.cores in
     let input : Stream = record { old = g.R.Read.remaining c.args.reader.now; new = g.R.Read.remaining c.do_threads.new.reader } in
     let output : Stream = record { old = g.W.Write.contents c.args.writer.now; new = g.W.Write.contents c.do_threads.new.writer } in
     let errors : Stream = record { old = g.E.Write.contents c.args.errors.now; new = g.E.Write.contents c.do_threads.new.errors } in
-    subst (λ (turns : Turns). ForText input.old (λ text. TurnsAnswer starts makes view waits g.S.PricedStore.prices g.S.PricedStore.keeps g.S.ShownStore.changes (addresses_of (map g.A.AsStr.text c.args.waits.now)) c.args.settings turns text input output errors c.do_threads.result)) (sym c.in-Threaded.is)
-    (for_both input.old (λ text. Conclusion (IsThreadsOutcome (IsOfCaches view) c.args.settings.asked options text output.old output.new) errors.old errors.new c.do_threads.result)
+    subst (λ (turns : Turns). ForText input.old (λ text. TurnsAnswer starts makes view waits g.S.PricedStore.prices g.S.PricedStore.keeps g.S.ShownStore.changes (addresses_of (map g.A.AsStr.text c.args.asked.now.waits.now)) c.args.asked.now.settings turns text input output errors c.do_threads.result)) (sym c.in-Threaded.is)
+    (for_both input.old (λ text. Conclusion (IsThreadsOutcome (IsOfCaches view) c.args.asked.now.settings.asked options text output.old output.new) errors.old errors.new c.do_threads.result)
     (TakesAtMost input.old input.new (longest_image_text + 1))
-    (subst (λ (n : ℕ). ForText input.old (λ text. Conclusion (IsThreadsOutcome (IsOfCaches view) c.args.settings.asked (record options { room = n }) text output.old output.new) errors.old errors.new c.do_threads.result))
+    (subst (λ (n : ℕ). ForText input.old (λ text. Conclusion (IsThreadsOutcome (IsOfCaches view) c.args.asked.now.settings.asked (record options { room = n }) text output.old output.new) errors.old errors.new c.do_threads.result))
     c.entries.ensures.value
-    (subst (λ (n : ℕ). ForText input.old (λ text. Conclusion (IsThreadsOutcome (IsOfCaches view) c.args.settings.asked (record options { cores = n; room = c.entries.result }) text output.old output.new) errors.old errors.new c.do_threads.result))
+    (subst (λ (n : ℕ). ForText input.old (λ text. Conclusion (IsThreadsOutcome (IsOfCaches view) c.args.asked.now.settings.asked (record options { cores = n; room = c.entries.result }) text output.old output.new) errors.old errors.new c.do_threads.result))
     c.count.ensures.value c.do_threads.ensures.outcome)) c.do_threads.ensures.taken)
