@@ -1,17 +1,16 @@
 //! Books: worked schedules, all short schedules, random ones, stops, and want of memory.
 
-ghost use Rattle.std.specs.Prelude.{◌≡◌, ◌<◌};
+ghost use Rattle.std.specs.Prelude.{◌≡◌};
 ghost use Rattle.homefree.specs.BookView.{IsOfSameLoop};
-ghost use Rattle.homefree.specs.Counted.{IsNoMore};
 
 use crate::images::{image_again, image_named, read_image};
+use crate::opened::Opened;
 use crate::random::Random;
 use crate::refusing::Refusing;
 use crate::rows::{IMAGES, ROWS, Row, SMALL, counts_in, numbers_of, row_of};
-use crate::walk::{drive_new, hart_after, look, open, turn, walk, walk_again};
+use crate::walk::{drive_new, hart_after, look, walk, walk_again};
 use crate::words::{end_of, entries_of, is_row};
 use homefree::{Answer, Book, StopCause, TurnFault};
-use run_ledger::Shares;
 use rv32_exec::{End, Hart, Image, NoMemory};
 use spec_bus::CachedBus;
 use spec_history::{Entry, What};
@@ -72,15 +71,9 @@ fn walk_book<S: EpochStore>(
     alloc: Global,
     row: &Row,
     worked: &Worked,
-    book: &mut Book<S>,
-    shares: &mut Shares,
-) -> Result<&'static str, Fail>
-    requires cores { book.old.cores ≡ row.now.cores }
-    requires image { book.old.image ≡ worked.now.image }
-    requires shares { IsNoMore shares.old book.old.totals }
-{
-    let (image, schedule) = (&worked.image, worked.schedule.as_slice());
-    let answers = walk(rt, alloc, book, image, row.cores, schedule, shares)?;
+    opened: &mut Opened<S>,
+) -> Result<&'static str, Fail> {
+    let answers = walk(rt, alloc, opened, worked.schedule.as_slice())?;
     assert!(rt; are_words(answers.as_slice(), row.answers));
     Ok(answers.last().copied().unwrap_or(""))
 }
@@ -92,13 +85,11 @@ fn walk_row<S: EpochStore>(
     row: &Row,
     worked: &Worked,
 ) -> Result<&'static str, Fail> {
-    let (image, cores) = (&worked.image, row.cores);
-    let made: Result<(Book<S>, Shares), NoMemory> = open(rt, alloc, image, cores, row.room);
-    let (mut book, mut shares) = made?;
-    let last = walk_book(rt, alloc, row, worked, &mut book, &mut shares)?;
-    assert!(rt; is_row_of(&book, row, worked.entries.as_slice()));
-    assert!(rt; shares.counts() == book.totals());
-    look(rt, alloc, &book, image, cores)?;
+    let mut opened: Opened<S> = Opened::open(rt, alloc, &worked.image, row.cores, row.room)?;
+    let last = walk_book(rt, alloc, row, worked, &mut opened)?;
+    assert!(rt; is_row_of(&opened.book, row, worked.entries.as_slice()));
+    assert!(rt; opened.shares.counts() == opened.book.totals());
+    look(rt, alloc, &opened)?;
     Ok(last)
 }
 
@@ -267,41 +258,27 @@ fn random_loops_are_legal_and_end_as_the_sequential_loop_does(rt: HostRuntime) -
 }
 
 /// The hart that a core is told by a turn, with this one in hand.
-fn told<S: EpochStore>(
-    book: &mut Book<S>,
-    image: &Image,
-    hart: Option<Hart>,
-    shares: &mut Shares,
-) -> Option<Hart>
-    requires core { 0 < book.old.cores }
-    requires image { book.old.image ≡ image.now }
-    requires shares { IsNoMore shares.old book.old.totals }
-    ensures same { IsOfSameLoop book.old book.new }
-    ensures shares { IsNoMore shares.new book.new.totals }
+fn told<S: EpochStore>(opened: &mut Opened<S>, hart: Option<Hart>) -> Option<Hart>
+    ensures { IsOfSameLoop opened.old.book opened.new.book }
 {
-    hart_after(&turn(book, image, 0, hart, shares), None)
+    hart_after(&opened.turn(0, hart), None)
 }
 
 /// It hands in nothing, then what it has loaded from, and then the same again.
-fn tell_it<S: EpochStore>(rt: &impl Abort, book: &mut Book<S>, image: &Image, shares: &mut Shares)
-    requires core { 0 < book.old.cores }
-    requires image { book.old.image ≡ image.now }
-    requires shares { IsNoMore shares.old book.old.totals }
-{
-    let started = told(book, image, None, shares);
-    let again = told(book, image, None, shares);
-    let loaded = told(book, image, started, shares);
-    let loaded_again = told(book, image, started, shares);
+fn tell_it<S: EpochStore>(rt: &impl Abort, opened: &mut Opened<S>) {
+    let started = told(opened, None);
+    let again = told(opened, None);
+    let loaded = told(opened, started);
+    let loaded_again = told(opened, started);
     assert!(rt; started.is_some() && again == started);
     assert!(rt; loaded.is_some() && loaded != started && loaded_again == loaded);
 }
 
 /// The core of a new book is told its hart.
 fn is_told(rt: &impl Abort, alloc: Global, image: &Image) -> Result<(), Fail> {
-    let made: Result<(Book<PlainStore>, Shares), NoMemory> = open(rt, alloc, image, 1, 64);
-    let (mut book, mut shares) = made?;
-    tell_it(rt, &mut book, image, &mut shares);
-    assert!(rt; book.len() == 2);
+    let mut opened: Opened<PlainStore> = Opened::open(rt, alloc, image, 1, 64)?;
+    tell_it(rt, &mut opened);
+    assert!(rt; opened.book.len() == 2);
     Ok(())
 }
 
@@ -323,30 +300,19 @@ fn stop_twice<S: EpochStore>(rt: &impl Abort, book: &mut Book<S>)
 }
 
 /// A core whose epoch has begun takes no turn in a book that was stopped.
-fn turn_stopped<S: EpochStore>(
-    rt: &impl Abort,
-    book: &mut Book<S>,
-    image: &Image,
-    hart: Option<Hart>,
-    shares: &mut Shares,
-)
-    requires core { 0 < book.old.cores }
-    requires image { book.old.image ≡ image.now }
-    requires shares { IsNoMore shares.old book.old.totals }
-{
-    let answer = turn(book, image, 0, hart, shares);
+fn turn_stopped<S: EpochStore>(rt: &impl Abort, opened: &mut Opened<S>, hart: Option<Hart>) {
+    let answer = opened.turn(0, hart);
     assert!(rt; answer == Ok(Answer::Stopped(StopCause::NoThread)));
-    assert!(rt; book.len() == 1 && book.homefree() == 0);
+    assert!(rt; opened.book.len() == 1 && opened.book.homefree() == 0);
 }
 
 /// A new book is stopped when its core has begun an epoch.
 fn is_stopped(rt: &impl Abort, alloc: Global, image: &Image) -> Result<(), Fail> {
-    let made: Result<(Book<PlainStore>, Shares), NoMemory> = open(rt, alloc, image, 1, 64);
-    let (mut book, mut shares) = made?;
-    let started = told(&mut book, image, None, &mut shares);
-    stop_twice(rt, &mut book);
-    turn_stopped(rt, &mut book, image, started, &mut shares);
-    look(rt, alloc, &book, image, 1)
+    let mut opened: Opened<PlainStore> = Opened::open(rt, alloc, image, 1, 64)?;
+    let started = told(&mut opened, None);
+    stop_twice(rt, &mut opened.book);
+    turn_stopped(rt, &mut opened, started);
+    look(rt, alloc, &opened)
 }
 
 #[test]
@@ -392,15 +358,9 @@ fn a_loop_that_is_over_is_not_stopped(rt: HostRuntime) -> Result<(), Fail> {
 fn refuse_two<S: EpochStore>(
     rt: &impl Abort,
     alloc: Global,
-    book: &mut Book<S>,
-    image: &Image,
-    shares: &mut Shares,
-) -> Result<(), Fail>
-    requires cores { book.old.cores ≡ 1 }
-    requires image { book.old.image ≡ image.now }
-    requires shares { IsNoMore shares.old book.old.totals }
-{
-    let answers = walk(rt, alloc, book, image, 1, &[0, 0, 0, 0], shares)?;
+    opened: &mut Opened<S>,
+) -> Result<(), Fail> {
+    let answers = walk(rt, alloc, opened, &[0, 0, 0, 0])?;
     assert!(rt; are_words(answers.as_slice(), "go go NoMemory NoMemory"));
     Ok(())
 }
@@ -413,13 +373,10 @@ fn has_entries<S: EpochStore>(alloc: Global, book: &Book<S>, text: &str) -> Resu
 
 /// A new book whose store refuses memory at the third turn is as it was.
 fn is_left(rt: &impl Abort, alloc: Global, image: &Image) -> Result<(), Fail> {
-    let made: Result<(Book<Refusing<PlainStore>>, Shares), NoMemory> = open(
-        rt, alloc, image, 1, 64,
-    );
-    let (mut book, mut shares) = made?;
-    refuse_two(rt, alloc, &mut book, image, &mut shares)?;
-    assert!(rt; has_entries(alloc, &book, "0 start 0; 0 load 64 4 0")?);
-    look(rt, alloc, &book, image, 1)
+    let mut opened: Opened<Refusing<PlainStore>> = Opened::open(rt, alloc, image, 1, 64)?;
+    refuse_two(rt, alloc, &mut opened)?;
+    assert!(rt; has_entries(alloc, &opened.book, "0 start 0; 0 load 64 4 0")?);
+    look(rt, alloc, &opened)
 }
 
 /// The store refuses memory at the third turn, and nothing has changed then.
@@ -436,14 +393,14 @@ fn holds_the_sum<S: EpochStore>(book: &Book<S>) -> bool {
 
 /// One core runs the sum of two epochs, and takes turns again where memory was refused.
 fn sums_again(rt: &impl Abort, alloc: Global, image: &Image) -> Result<(), Fail> {
-    let mut made: Result<(Book<PlainStore>, Shares), NoMemory> = open(rt, alloc, image, 1, 64);
+    let mut made: Result<Opened<PlainStore>, NoMemory> = Opened::open(rt, alloc, image, 1, 64);
     if made.is_err() {
-        made = open(rt, alloc, image, 1, 64);
+        made = Opened::open(rt, alloc, image, 1, 64);
     }
-    let (mut book, mut shares) = made?;
-    let end = walk_again(rt, &mut book, image, &mut shares);
-    assert!(rt; end == Some(End::Done(2)) && shares.counts() == counts_in("2 2 0 2"));
-    assert!(rt; holds_the_sum(&book));
+    let mut opened = made?;
+    let end = walk_again(rt, &mut opened);
+    assert!(rt; end == Some(End::Done(2)) && opened.shares.counts() == counts_in("2 2 0 2"));
+    assert!(rt; holds_the_sum(&opened.book));
     Ok(())
 }
 

@@ -12,6 +12,8 @@ mod images;
 #[cfg(test)]
 mod machines;
 #[cfg(test)]
+mod opened;
+#[cfg(test)]
 mod plain_bus;
 #[cfg(test)]
 mod plain_core;

@@ -1,57 +1,16 @@
 //! Books taken through a schedule, and their histories looked at from outside.
-ghost use Rattle.std.specs.Prelude.{◌≡◌, ◌<◌, IfOk};
+ghost use Rattle.std.specs.Prelude.{◌<◌};
 ghost use Rattle.homefree.specs.BookView.{IsOfSameLoop};
-ghost use Rattle.homefree.specs.Counted.{IsNoMore};
 
+use crate::opened::Opened;
 use homefree::{Answer, Book, Cause, TurnFault, drive};
-use run_ledger::{Counts, Shares};
-use rv32_exec::{End, Hart, Image, NoMemory, advance, run_in_order};
+use run_ledger::Counts;
+use rv32_exec::{End, Hart, Image, run_in_order};
 use spec_history::{Entry, Flat, What, audit};
 use std::alloc::Global;
 use std::process::Abort;
 use std::test::Fail;
 use violations::EpochStore;
-
-/// A new book for so many cores, and its shares.
-pub fn open<S: EpochStore>(
-    rt: &impl Abort,
-    alloc: Global,
-    image: &Image,
-    cores: u32,
-    room: u32,
-) -> Result<(Book<S>, Shares), NoMemory>
-    ensures image { IfOk result (λ made. made.0.image ≡ image.now) }
-    ensures cores { IfOk result (λ made. made.0.cores ≡ cores) }
-    ensures shares { IfOk result (λ made. IsNoMore made.1 made.0.totals) }
-{
-    let most = image.version().limits().most_cores;
-    assert!(rt; 1 <= cores && cores <= most);
-    assert!(rt; 16 <= room && room <= 1_048_576);
-    Book::new(alloc, image, cores, room)
-}
-
-/// One turn of a core with this hart in hand.
-pub fn turn<S: EpochStore>(
-    book: &mut Book<S>,
-    image: &Image,
-    core: u32,
-    hart: Option<Hart>,
-    shares: &mut Shares,
-) -> Result<Answer, TurnFault>
-    requires core { core < book.old.cores }
-    requires image { book.old.image ≡ image.now }
-    requires shares { IsNoMore shares.old book.old.totals }
-    ensures same { IsOfSameLoop book.old book.new }
-    ensures shares { IsNoMore shares.new book.new.totals }
-{
-    match hart {
-        None => book.turn(core, None, shares),
-        Some(hart) => {
-            let arrived = advance(image, hart);
-            book.turn(core, Some(&arrived), shares)
-        }
-    }
-}
 
 /// The hart that a core has in hand after an answer.
 pub fn hart_after(answer: &Result<Answer, TurnFault>, held: Option<Hart>) -> Option<Hart> {
@@ -87,21 +46,12 @@ fn take(held: &mut [Option<Hart>], core: u32, answer: &Result<Answer, TurnFault>
 }
 
 /// One turn of a core with the hart that its last turn gave it, and the word for its answer.
-fn step<S: EpochStore>(
-    book: &mut Book<S>,
-    image: &Image,
-    core: u32,
-    held: &mut [Option<Hart>],
-    shares: &mut Shares,
-) -> &'static str
-    requires core { core < book.old.cores }
-    requires image { book.old.image ≡ image.now }
-    requires shares { IsNoMore shares.old book.old.totals }
-    ensures same { IsOfSameLoop book.old book.new }
-    ensures shares { IsNoMore shares.new book.new.totals }
+fn step<S: EpochStore>(opened: &mut Opened<S>, core: u32, held: &mut [Option<Hart>]) -> &'static str
+    requires { core < opened.old.cores }
+    ensures { IsOfSameLoop opened.old.book opened.new.book }
 {
     let hart = hart_of(held, core);
-    let answer = turn(book, image, core, hart, shares);
+    let answer = opened.turn(core, hart);
     take(held, core, &answer);
     word_of(&answer)
 }
@@ -110,21 +60,14 @@ fn step<S: EpochStore>(
 pub fn walk<S: EpochStore>(
     rt: &impl Abort,
     alloc: Global,
-    book: &mut Book<S>,
-    image: &Image,
-    cores: u32,
+    opened: &mut Opened<S>,
     schedule: &[u32],
-    shares: &mut Shares,
-) -> Result<Vec<&'static str>, Fail>
-    requires cores { book.old.cores ≡ cores }
-    requires image { book.old.image ≡ image.now }
-    requires shares { IsNoMore shares.old book.old.totals }
-{
+) -> Result<Vec<&'static str>, Fail> {
     let mut held = [None; 16];
     let mut answers = Vec::new(alloc);
     for core in schedule {
-        assert!(rt; *core < cores);
-        answers.push(step(book, image, *core, &mut held, shares))?;
+        assert!(rt; *core < opened.cores);
+        answers.push(step(opened, *core, &mut held))?;
     }
     Ok(answers)
 }
@@ -135,24 +78,15 @@ fn state_of<S: EpochStore>(book: &Book<S>) -> (usize, Counts, u32, Option<End>) 
 }
 
 /// The end that one core comes to, which takes a turn again where memory was refused.
-pub fn walk_again<S: EpochStore>(
-    rt: &impl Abort,
-    book: &mut Book<S>,
-    image: &Image,
-    shares: &mut Shares,
-) -> Option<End>
-    requires cores { 0 < book.old.cores }
-    requires image { book.old.image ≡ image.now }
-    requires shares { IsNoMore shares.old book.old.totals }
-{
+pub fn walk_again<S: EpochStore>(rt: &impl Abort, opened: &mut Opened<S>) -> Option<End> {
     let mut held = None;
     for _ in 0..64 {
-        let before = state_of(book);
-        let answer = turn(book, image, 0, held, shares);
-        assert!(rt; answer.is_ok() || state_of(book) == before);
+        let before = state_of(&opened.book);
+        let answer = opened.turn(0, held);
+        assert!(rt; answer.is_ok() || state_of(&opened.book) == before);
         held = hart_after(&answer, held);
-        if book.ended().is_some() {
-            return book.ended();
+        if opened.book.ended().is_some() {
+            return opened.book.ended();
         }
     }
     None
@@ -199,31 +133,25 @@ pub fn counts_of(entries: &[Entry]) -> Counts {
 
 /// The history is legal, the machine after it has the book's homefree epoch, end and committed memory, and the totals are its
 /// counts. Where the loop is over, it has ended as the sequential loop does, with its memory.
-pub fn look<S: EpochStore>(
-    rt: &impl Abort,
-    alloc: Global,
-    book: &Book<S>,
-    image: &Image,
-    cores: u32,
-) -> Result<(), Fail> {
-    match audit(alloc, image, cores, book.history()) {
+pub fn look<S: EpochStore>(rt: &impl Abort, alloc: Global, opened: &Opened<S>) -> Result<(), Fail> {
+    let (book, image) = (&opened.book, opened.image);
+    match audit(alloc, image, opened.cores, book.history()) {
         Ok(flat) => assert!(rt; is_after(book, &flat, image.size())),
         Err(_) => return Err("illegal".into()),
     }
     assert!(rt; book.totals() == counts_of(book.history()));
-    ends_in_order(rt, alloc, book, image)
+    ends_in_order(rt, alloc, opened)
 }
 
 /// A book whose loop is over says the same as the sequential loop.
 fn ends_in_order<S: EpochStore>(
     rt: &impl Abort,
     alloc: Global,
-    book: &Book<S>,
-    image: &Image,
+    opened: &Opened<S>,
 ) -> Result<(), Fail> {
-    if let Some(end) = book.ended() {
-        let whole = run_in_order(alloc, image)?;
-        let committed = book.committed_memory(alloc)?;
+    if let Some(end) = opened.book.ended() {
+        let whole = run_in_order(alloc, opened.image)?;
+        let committed = opened.book.committed_memory(alloc)?;
         assert!(rt; whole.end() == end && committed.as_slice() == whole.bytes());
     }
     Ok(())
@@ -242,19 +170,15 @@ fn is_after<S: EpochStore>(book: &Book<S>, flat: &Flat, size: u32) -> bool {
 /// Drives a book through a schedule of its cores.
 fn drive_all<S: EpochStore>(
     rt: &impl Abort,
-    book: &mut Book<S>,
-    cores: u32,
+    opened: &mut Opened<S>,
     schedule: &[u32],
-    shares: &mut Shares,
-) -> Result<Option<End>, TurnFault>
-    requires cores { book.old.cores ≡ cores }
-    requires shares { IsNoMore shares.old book.old.totals }
-{
+) -> Result<Option<End>, TurnFault> {
+    let cores = opened.cores;
     assert!(rt; schedule.iter().all(|core| *core < cores));
-    let driven = drive(book, schedule, shares);
-    assert!(rt; shares.counts() == book.totals());
+    let driven = drive(&mut opened.book, schedule, &mut opened.shares);
+    assert!(rt; opened.shares.counts() == opened.book.totals());
     // A loop of no epochs is over before any turn tells it.
-    assert!(rt; driven == Ok(book.ended()) || driven.is_err() || schedule.is_empty());
+    assert!(rt; driven == Ok(opened.book.ended()) || driven.is_err() || schedule.is_empty());
     driven
 }
 
@@ -267,9 +191,9 @@ pub fn drive_new<S: EpochStore>(
     room: u32,
     schedule: &[u32],
 ) -> Result<(Book<S>, Result<Option<End>, TurnFault>), Fail> {
-    let made: Result<(Book<S>, Shares), NoMemory> = open(rt, alloc, image, cores, room);
-    let (mut book, mut shares) = made?;
-    let driven = drive_all(rt, &mut book, cores, schedule, &mut shares);
-    look(rt, alloc, &book, image, cores)?;
+    let mut opened: Opened<S> = Opened::open(rt, alloc, image, cores, room)?;
+    let driven = drive_all(rt, &mut opened, schedule);
+    look(rt, alloc, &opened)?;
+    let Opened { book, .. } = opened;
     Ok((book, driven))
 }
