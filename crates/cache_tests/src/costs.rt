@@ -62,34 +62,36 @@ fn what_accesses_cost(rt: HostRuntime) -> Result<(), Fail> {
     Ok(())
 }
 
+/// A store of two cores or more, with the word at 64.
+#[derive(Drop)]
+struct Asked<'a, S: PricedStore> {
+    store: &'a S,
+    ghost cores: { 1 < (S.view store.now).shape.cores },
+    ghost size: { 68 ≤ (S.view store.now).shape.size },
+}
+
 /// Whether an access of core 0 to the word at 64 would wait: a load, and a store.
-fn waits<S: PricedStore>(store: &S) -> (bool, bool)
-    requires cores { 0 < (S.view store.now).shape.cores }
-    requires size { 68 ≤ (S.view store.now).shape.size }
-{
+fn waits<S: PricedStore>(asked: &Asked<S>) -> (bool, bool) {
+    let store = asked.store;
     (store.load_waits(0, 64, 4), store.store_waits(0, 64, 4))
 }
 
 /// Whether nothing costs, and no access waits.
-fn is_free<S: PricedStore>(store: &S) -> bool
-    requires cores { 1 < (S.view store.now).shape.cores }
-    requires size { 68 ≤ (S.view store.now).shape.size }
-{
+fn is_free<S: PricedStore>(asked: &Asked<S>) -> bool {
+    let store = asked.store;
     let load = store.load_actions(0, false, 64);
     let stored = store.store_actions(1, true, 64);
     let lines = store.publish_lines(0);
-    !load.needs_bus() && stored.messages() == 0 && lines == 0 && waits(store) == (false, false)
+    !load.needs_bus() && stored.messages() == 0 && lines == 0 && waits(asked) == (false, false)
 }
 
 /// Whether straight accesses of core 0 are misses, its publish asks for no line, and others wait.
-fn costs_as_in_it<S: PricedStore>(store: &S) -> bool
-    requires cores { 1 < (S.view store.now).shape.cores }
-    requires size { 68 ≤ (S.view store.now).shape.size }
-{
+fn costs_as_in_it<S: PricedStore>(asked: &Asked<S>) -> bool {
+    let store = asked.store;
     let load = store.load_actions(0, true, 64);
     let stored = store.store_actions(0, true, 64);
     let lines = store.publish_lines(0);
-    load.misses == 1 && stored.misses == 1 && lines == 0 && waits(store) == (true, true)
+    load.misses == 1 && stored.misses == 1 && lines == 0 && waits(asked) == (true, true)
 }
 
 /// Over a plain store nothing costs, and a store that waits costs what the one in it does.
@@ -98,9 +100,9 @@ fn what_other_stores_cost(rt: HostRuntime) -> Result<(), Fail> {
     let image = image_of(rt.alloc(), IMAGE.as_bytes())?;
     assert!(rt; image.version().limits().most_cores >= 2 && image.size() >= 68);
     let plain = PlainStore::fresh(rt.alloc(), &image, 2)?;
-    assert!(rt; is_free(&plain));
+    assert!(rt; is_free(&Asked { store: &plain }));
     let waiting: Waiting<CachedBus> = Waiting::fresh(rt.alloc(), &image, 2)?;
-    assert!(rt; costs_as_in_it(&waiting));
+    assert!(rt; costs_as_in_it(&Asked { store: &waiting }));
     Ok(())
 }
 

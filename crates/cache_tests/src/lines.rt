@@ -55,12 +55,12 @@ fn counted(from: u8, length: usize) -> [u8; LONGEST_LINE]
     cells
 }
 
-/// A line that counts its cells.
-fn counting_line(rt: &impl Abort, length: usize, addr: u32, state: LineState, marks: Marks) -> Line
-    requires { IsTrue (is_line_length length) }
+/// A line for a cache that counts its cells.
+fn counting_line(rt: &impl Abort, cache: &Cache, addr: u32, state: LineState, marks: Marks) -> Line
     ensures addr { result.addr ≡ addr }
-    ensures fits { FitsLength length result }
+    ensures fits { FitsLength cache.now.line_length result }
 {
+    let length = cache.line_length();
     assert!(rt;
         length == 64
             || length == 32 && marks.bytes < 0x1_0000_0000
@@ -77,9 +77,8 @@ fn counting_line(rt: &impl Abort, length: usize, addr: u32, state: LineState, ma
 /// Puts a line into a way, which no other way of its set has.
 pub fn put(rt: &impl Abort, cache: &mut Cache, way: usize, line: (u32, LineState, Marks)) {
     let (addr, state, marks) = line;
-    let length = cache.line_length();
-    assert!(rt; way < cache.ways() && addr as usize % length == 0);
-    let line = counting_line(rt, length, addr, state, marks);
+    assert!(rt; way < cache.ways() && addr as usize % cache.line_length() == 0);
+    let line = counting_line(rt, cache, addr, state, marks);
     match cache.find(addr) {
         Some(held) => {
             assert!(rt; held == way);
@@ -309,7 +308,7 @@ fn is_number(rt: &impl Abort, row: &str) -> Option<bool> {
     assert!(rt;
         offset < 61 && width == 4 || offset < 63 && width == 2 || offset < 64 && width == 1
     );
-    let line = counting_line(rt, 64, 64, S, NONE);
+    let line = counting_line(rt, &Cache::new(64), 64, S, NONE);
     Some(line.number_at(offset, width) == want)
 }
 
@@ -391,11 +390,9 @@ const REFRESHES: &str = "
 64 ffffffffffffffff 0 64
 ";
 
-/// Cells that count up from 100, but for so many from `first` on, which count up from `first`.
-fn counted_but_for(length: usize, first: usize, count: usize) -> [u8; LONGEST_LINE]
-    requires { IsTrue (is_line_length length) }
-{
-    let mut cells = counted(100, length);
+/// Cells of a line for a cache that count up from 100, but for so many from `first` on, which count up from `first`.
+fn counted_but_for(cache: &Cache, first: usize, count: usize) -> [u8; LONGEST_LINE] {
+    let mut cells = counted(100, cache.line_length());
     for x in 0..LONGEST_LINE {
         if first <= x && x - first < count {
             cells[x] = x as u8;
@@ -411,16 +408,17 @@ fn is_refresh(rt: &impl Abort, row: &str) -> Option<bool> {
     assert!(rt; is_length(length));
     let addr = 8 * length as u32;
     let cache = pair(rt, length, (S, NONE), (SpS, stored(mask)));
-    let length = cache.line_length();
     assert!(rt; cache.ways() == WAYS);
-    let refreshed = cache.line(addr, 1).refreshed(&counted(100, length));
+    let refreshed = cache
+        .line(addr, 1)
+        .refreshed(&counted(100, cache.line_length()));
     Some(
         refreshed
             == Line {
                 addr,
                 state: SpS,
                 marks: stored(mask),
-                cells: counted_but_for(length, first, count),
+                cells: counted_but_for(&cache, first, count),
             },
     )
 }
@@ -461,10 +459,8 @@ fn twice(rt: &impl Abort, length: usize, state: LineState, marks: Marks) -> Cach
 }
 
 /// Whether each copy of the line has this state, the one beside it is E, and none has marks.
-fn are_all(rt: &impl Abort, cache: &Cache, length: usize, state: LineState) -> bool
-    requires { IsTrue (is_line_length length) }
-{
-    let unit = length as u32;
+fn are_all(rt: &impl Abort, cache: &Cache, state: LineState) -> bool {
+    let unit = cache.line_length() as u32;
     states(rt, cache, 4 * unit) == ([state, E], false)
         && states(rt, cache, 7 * unit) == ([I, state], false)
 }
@@ -478,7 +474,7 @@ fn is_roll_back(rt: &impl Abort, row: &str, length: usize) -> Option<bool> {
     rolled_back.roll_back_all();
     let mut settled = twice(rt, length, before, marks);
     settled.settle_all();
-    Some(are_all(rt, &rolled_back, length, back) && are_all(rt, &settled, length, published))
+    Some(are_all(rt, &rolled_back, back) && are_all(rt, &settled, published))
 }
 
 #[test]
