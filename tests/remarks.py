@@ -14,7 +14,7 @@ from collections.abc import Iterator
 from functools import partial
 from pathlib import Path
 
-from common import ROOT, Check, Script, called_tool, left_out
+from common import Check, Script, called_tool, left_out
 
 Results = Iterator[Check]
 BODY = ("#ifndef STEP\n#define STEP 1\n#endif\nunsigned sums[4];\nvoid body(unsigned epoch) { sums[epoch & 3] += STEP; "
