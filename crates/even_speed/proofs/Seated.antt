@@ -1,9 +1,9 @@
 -- What the code keeps of each core is what the history leads to, and so is which cores are held.
-use Rattle.std.proofs.Common.{◌≡◌, ℕ, ◌==◌, ◌/◌, ◌&&◌, ◌||◌, not, is_none, nat_le, Bool, true, false, cond, List, [], ◌∷◌, ◌++◌, length, take, drop, get_or, All, ◌+◌, ◌-◌, ◌<◌, ◌≤◌, Option, Some, None, option_map, refl, sym, ap, subst, ◌∙◌, inl, inr, arith, eq-eqb, eqb-true, ne_eqb, true≢false}
+use Rattle.std.proofs.Common.{◌≡◌, ℕ, ◌==◌, ◌&&◌, ◌||◌, not, is_none, nat_le, Bool, true, false, cond, List, [], ◌∷◌, ◌++◌, length, take, drop, get_or, slice_set, All, ◌+◌, ◌-◌, ◌<◌, ◌≤◌, Option, Some, None, option_map, refl, sym, ap, subst, ◌∙◌, inl, inr, arith, eq-eqb, eqb-true, ne_eqb, true≢false}
 use Rattle.std.specs.List.{list_any}
 use Rattle.std.proofs.Math.Dec.{eqb-suc-zero}
 use Rattle.std.proofs.Math.Path.{fun_ext}
-use Rattle.std.proofs.lemmas.List.{drop_all, drop_more, get_or-replicate, length-drop, get_or_past, take-append-drop}
+use Rattle.std.proofs.lemmas.List.{drop_all, drop_more, get_or-replicate, get_or-set_other, get_or-set_same, length-drop, get_or_past, take-append-drop}
 use Rattle.std.proofs.lemmas.List.Elements.{All-drop, All-head, All-tail, All-weaker}
 use Rattle.std.proofs.Math.Seq.{take-append_seam, take-length}
 use Rattle.std.proofs.Math.ListN.{replicate, length-replicate}
@@ -247,6 +247,13 @@ by_more entries i d there by = parts (subst (All (λ e. e.by < 16)) (drop_more e
   where
     parts : All (λ e. e.by < 16) (get_or entries i d ∷ drop (i + 1) entries) → ((get_or entries i d).by < 16) × All (λ e. e.by < 16) (drop (i + 1) entries)
     parts all = (All-head (λ (e : Entry). e.by < 16) _ _ all, All-tail (λ (e : Entry). e.by < 16) _ _ all)
+
+-- it is set whether one is held
+pub one_set : (held : List Bool) (core : ℕ) (now : Bool) → core < length held → (k : ℕ) → is_held_in (slice_set held core now) k ≡ cond (k == core) now (is_held_in held k)
+one_set held core now there k = elim (cases_eq k core) [
+  | inl e ↦ ap (is_held_in (slice_set held core now)) e ∙ (get_or-set_same held core now false there ∙ ap (λ b. cond b now (is_held_in held k)) (sym (eq-eqb k core e)))
+  | inr other ↦ get_or-set_other held core k now false other ∙ ap (λ b. cond b now (is_held_in held k)) (sym (ne_eqb k core other))
+]
 
 -- one core more
 pub held_more : (core : ℕ) (now : Bool) (old new want : ℕ → Bool) → ((k : ℕ) → new k ≡ cond (k == core) now (old k)) → now ≡ want core → ((k : ℕ) → k < core → old k ≡ want k) → (k : ℕ) → k < core + 1

@@ -1,10 +1,13 @@
 -- What is kept of the clocks along a run.
 use Rattle.std.specs.Prelude.{◌≡◌, ℕ, ◌+◌, ◌*◌, ◌^◌, ◌<◌, ◌≤◌, ◌==◌, ◌&&◌, ◌||◌, nat_le, nat_lt, not, Bool, true, false, List, length, Option, Some, None, Result, Ok, Err, if◌then◌else◌}
 use Rattle.std.specs.List.{slice_index_or}
+use Rattle.rv32_image.specs.Image.{LoadedImage}
+use Rattle.rv32_exec.specs.Arrival.{Arrival}
 use Rattle.homefree.specs.declared.answer.Answer.{Answer}
 use Rattle.homefree.specs.declared.answer.Answer.TheVariants.{Go, Again, Left, Over, Stopped}
 use Rattle.homefree.specs.declared.answer.Cause.TheVariants.{NoEpoch, NotHomefree, NoWay, OrbFull, OrbBusy}
 use Rattle.homefree.specs.declared.fault.TurnFault.{TurnFault}
+use Rattle.homefree.specs.Held.{HaveArrived}
 use Rattle.even_speed.specs.declared.clock.Clock.{Clock}
 use Rattle.even_speed.specs.declared.clock.Next.{Next}
 use Rattle.even_speed.specs.declared.clock.Next.TheVariants.{Due, Waits, Gone}
@@ -49,6 +52,36 @@ pub record MayWake (at : ℕ) (c : Clock) : Type 0 where
   pub whole : steps_of c.account ≡ told c
   pub few : told c < 2 ^ 62
   pub before : IsWaitBefore at c.next
+
+-- a turn of it may begin at this time: what it has used lies before, and its account has all that is told
+pub record MayTurn (at : ℕ) (c : Clock) : Type 0 where
+  pub before : used c ≤ at
+  pub whole : steps_of c.account ≡ told c
+  pub soon : at < 2 ^ 61
+
+-- a turn of it that was due at this time may begin at that one
+pub record MayBeLate (due at : ℕ) (c : Clock) : Type 0 where
+  pub before : used c ≤ due
+  pub whole : steps_of c.account ≡ told c
+  pub later_on : due ≤ at
+  pub soon : at < 2 ^ 61
+
+-- from this time on it may run another attempt, or have no epoch
+pub record MayPart (at : ℕ) (c : Clock) : Type 0 where
+  pub so_far : told c ≤ at
+  pub whole : steps_of c.account ≡ told c
+  pub soon : at < 2 ^ 62
+
+-- the clocks are these now, of as many cores
+pub record AreClocks (old new : List Clock) (clocks : ℕ → Clock) : Type 0 where
+  pub len : length new ≡ length old
+  pub each : (k : ℕ) → clock_at new k ≡ clocks k
+
+-- of so many cores, the turn of this one may be priced: what each has in hand is where `advance` came to
+pub record MayPrice (image : LoadedImage) (cores : ℕ) (hands : List (Option Arrival)) (core : ℕ) : Type 0 where
+  pub there : core < cores
+  pub few : cores ≤ 16
+  pub came : HaveArrived image hands
 
 -- where it is due, it is due at this time or sooner
 abbrev pub IsDueBy : ℕ → Next → Type 0

@@ -1,5 +1,5 @@
 -- What the code keeps of the stores of each core, as the entries of the history tell them.
-use Rattle.std.specs.Prelude.{ℕ, ◌+◌, ◌^◌, ◌<◌, ◌==◌, Bool, true, false, List, [], ◌∷◌, Option, if◌then◌else◌}
+use Rattle.std.specs.Prelude.{◌≡◌, ℕ, ◌+◌, ◌^◌, ◌<◌, ◌==◌, Bool, true, false, List, [], ◌∷◌, length, Option, Result, OnOk, if◌then◌else◌}
 use Rattle.std.specs.List.{slice_index_or}
 use Rattle.memory_bytes.specs.Maps.{joined, nothing, stored}
 use Rattle.memory_bytes.specs.Shadow.{byte_in}
@@ -65,6 +65,11 @@ owned o = record { bytes = byte_in o.bytes.cells; straight = o.straight }
 
 abbrev pub own_at : List Own → ℕ → Owned
 own_at owns k = owned (slice_index_or owns k (record { bytes = record { cells = []; room = 0 }; straight = false }))
+
+-- the cores are as many as before, and where the call did not fail, what each has stored is this
+pub record HaveStored {A E : Type 0} (result : Result A E) (old new : List Own) (owns : ℕ → Owned) : Type 0 where
+  pub len : length new ≡ length old
+  pub kept : OnOk result ((k : ℕ) → own_at new k ≡ owns k)
 
 -- no core has stored anything
 abbrev pub none_own : ℕ → Owned

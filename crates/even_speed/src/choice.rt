@@ -7,7 +7,7 @@ ghost use Rattle.even_speed.specs.Even.{price_by};
 ghost use Rattle.even_speed.specs.Held.{held_in};
 ghost use Rattle.even_speed.specs.Holds.{holding_of};
 ghost use Rattle.even_speed.specs.Kept as kept;
-ghost use Rattle.even_speed.specs.Kept.{IsNext, is_held_in};
+ghost use Rattle.even_speed.specs.Kept.{IsNext, MayPrice, is_held_in};
 ghost use Rattle.even_speed.specs.Pricing.{IsLow, begins};
 
 use crate::clock::Clock;
@@ -67,9 +67,7 @@ fn with_core<S: PricedStore>(
     core: u32,
     due: Option<u64>,
 ) -> Option<Turn>
-    requires core { core < book.now.cores }
-    requires few { book.now.cores ≤ 16 }
-    requires hands { HaveArrived book.now.image hands.now }
+    requires { MayPrice book.now.image book.now.cores hands.now core }
     ensures { (dues : ℕ → Option ℕ) → IsNext free.now (price_by S.prices S.waits costs book.now (harts_of hands.now)) dues core found → dues core ≡ due
         → IsNext free.now (price_by S.prices S.waits costs book.now (harts_of hands.now)) dues (core + 1) result }
 {
@@ -103,9 +101,7 @@ fn price_at<S: PricedStore>(
     hands: &[Option<Arrived>; MAX_CORES],
     core: u32,
 ) -> Price
-    requires core { core < book.now.cores }
-    requires few { book.now.cores ≤ 16 }
-    requires hands { HaveArrived book.now.image hands.now }
+    requires { MayPrice book.now.image book.now.cores hands.now core }
     ensures price { result ≡ price_by S.prices S.waits costs book.now (harts_of hands.now) core }
     ensures low { IsLow result }
 {

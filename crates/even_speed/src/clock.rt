@@ -2,7 +2,7 @@
 ghost use Rattle.std.specs.Prelude.{◌≡◌, ◌≤◌, ◌<◌, ◌-◌, ◌+◌, ◌^◌};
 ghost use Rattle.even_speed.specs.Account.{one_more, nothing_spent, steps_of, total};
 ghost use Rattle.even_speed.specs.Clocks as spec;
-ghost use Rattle.even_speed.specs.Kept.{IsSound, MayWake, told, used};
+ghost use Rattle.even_speed.specs.Kept.{IsSound, MayBeLate, MayPart, MayTurn, MayWake, told, used};
 
 use crate::account::{Account, NOTHING_SPENT, Spent, no_steps};
 use homefree::{Answer, Cause};
@@ -69,10 +69,7 @@ impl Clock {
 
     /// Its turn, which was due at this time, begins at that one: it was in a queue between them, or held.
     pub(crate) fn late(self, queues: bool, due: u64, at: u64) -> Clock
-        requires used { used self ≤ due }
-        requires whole { steps_of self.account ≡ told self }
-        requires due { due ≤ at }
-        requires at { at < 2 ^ 61 }
+        requires { MayBeLate due at self }
         ensures { result ≡ spec.late queues due at self }
     {
         let steps = at - due;
@@ -140,9 +137,7 @@ impl Clock {
 
     /// Its epoch is left by a turn at this time, which spends this and takes a step.
     fn left(self, at: u64, spent: &Spent) -> Clock
-        requires used { used self ≤ at }
-        requires whole { steps_of self.account ≡ told self }
-        requires at { at < 2 ^ 61 }
+        requires turn { MayTurn at self }
         requires spent { total spent.now < 2 ^ 60 }
         ensures { result ≡ spec.left at spent.now self }
     {
@@ -152,9 +147,7 @@ impl Clock {
 
     /// It begins an attempt at this time, where it ran none or was violated.
     fn begun(self, at: u64, restarted: bool) -> Clock
-        requires told { told self ≤ at }
-        requires whole { steps_of self.account ≡ told self }
-        requires at { at < 2 ^ 62 }
+        requires { MayPart at self }
         ensures { result ≡ spec.begun at restarted self }
     {
         let steps = at - self.since - self.waited;
@@ -186,9 +179,7 @@ impl Clock {
         spent: &Spent,
         answer: &Answer,
     ) -> Clock
-        requires used { used self ≤ at }
-        requires whole { steps_of self.account ≡ told self }
-        requires at { at < 2 ^ 61 }
+        requires turn { MayTurn at self }
         requires executed { executed < 2 ^ 61 }
         requires spent { total spent.now < 2 ^ 60 }
         ensures { result ≡ spec.answered at restarted executed spent.now answer.now self }
@@ -229,9 +220,7 @@ impl Clock {
 
     /// What still runs at this time is dropped.
     fn dropped(self, end: u64) -> Clock
-        requires told { told self ≤ end }
-        requires whole { steps_of self.account ≡ told self }
-        requires end { end < 2 ^ 62 }
+        requires { MayPart end self }
         ensures { result ≡ spec.dropped end self }
     {
         let steps = end - self.since - self.waited;

@@ -3,7 +3,7 @@ ghost use Rattle.std.specs.Prelude.{◌≡◌, ◌≤◌, ◌<◌, ◌-◌, ◌+
 ghost use Rattle.even_speed.specs.Account.{steps_of};
 ghost use Rattle.even_speed.specs.Clocks as spec;
 ghost use Rattle.even_speed.specs.Even.{queues_of};
-ghost use Rattle.even_speed.specs.Kept.{IsSound, MayWake, told, used};
+ghost use Rattle.even_speed.specs.Kept.{AreClocks, IsSound, MayBeLate, MayWake};
 
 use crate::account::{Account, no_steps};
 use crate::clock::{Clock, first_clock};
@@ -41,9 +41,8 @@ pub(crate) fn first_clocks(alloc: Global, cores: u32) -> Result<Vec<Clock>, NoMe
 
 /// Sets the clock of a core.
 pub(crate) fn set_clock(clocks: &mut Vec<Clock>, core: u32, clock: Clock)
-    requires core { core < length clocks.old.items }
-    ensures len { length clocks.new.items ≡ length clocks.old.items }
-    ensures each { (k : ℕ) → spec.clock_at clocks.new.items k ≡ (if k == core then clock else spec.clock_at clocks.old.items k) }
+    requires { core < length clocks.old.items }
+    ensures { AreClocks clocks.old.items clocks.new.items (λ k. if k == core then clock else spec.clock_at clocks.old.items k) }
 {
     clocks[core as usize] = clock;
 }
@@ -59,12 +58,8 @@ pub(crate) fn clock_of(clocks: &Vec<Clock>, core: u32) -> Clock
 /// The core that takes the turn was in a queue from when it was due until the turn begins, or was held.
 pub(crate) fn be_late(clocks: &mut Vec<Clock>, terms: &Terms, turn: &Turn)
     requires core { turn.now.core < length clocks.old.items }
-    requires used { used (spec.clock_at clocks.old.items turn.now.core) ≤ turn.now.due }
-    requires whole { steps_of (spec.clock_at clocks.old.items turn.now.core).account ≡ told (spec.clock_at clocks.old.items turn.now.core) }
-    requires due { turn.now.due ≤ turn.now.at }
-    requires at { turn.now.at < 2 ^ 61 }
-    ensures len { length clocks.new.items ≡ length clocks.old.items }
-    ensures each { (k : ℕ) → spec.clock_at clocks.new.items k ≡ spec.late_clocks (queues_of terms.now) (spec.clock_at clocks.old.items) turn.now k }
+    requires may { MayBeLate turn.now.due turn.now.at (spec.clock_at clocks.old.items turn.now.core) }
+    ensures { AreClocks clocks.old.items clocks.new.items (spec.late_clocks (queues_of terms.now) (spec.clock_at clocks.old.items) turn.now) }
 {
     let clock = clock_of(clocks, turn.core).late(terms.is_queue(), turn.due, turn.at);
     set_clock(clocks, turn.core, clock);
@@ -75,8 +70,7 @@ pub(crate) fn wake_all(clocks: &mut Vec<Clock>, at: u64)
     requires few { length clocks.old.items ≤ 16 }
     requires may { (k : ℕ) → k < length clocks.old.items → MayWake at (spec.clock_at clocks.old.items k) }
     requires at { at < 2 ^ 61 }
-    ensures len { length clocks.new.items ≡ length clocks.old.items }
-    ensures each { (k : ℕ) → spec.clock_at clocks.new.items k ≡ spec.woken at (spec.clock_at clocks.old.items k) }
+    ensures { AreClocks clocks.old.items clocks.new.items (λ k. spec.woken at (spec.clock_at clocks.old.items k)) }
 {
     for core in 0..clocks.len() as u32 {
         let clock = clock_of(clocks, core).woken(at);

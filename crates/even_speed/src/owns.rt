@@ -1,5 +1,6 @@
 //! The bytes that the attempts of cores have stored, as the entries of the history tell them.
-ghost use Rattle.std.specs.Prelude.{◌≡◌, ◌<◌, ◌==◌, ◌+◌, ◌^◌, ℕ, All, IfOk, OnOk, length, if◌then◌else◌};
+ghost use Rattle.std.specs.Prelude.{◌≡◌, ◌<◌, ◌==◌, ◌+◌, ◌^◌, ℕ, All, IfOk, length};
+ghost use Rattle.memory_bytes.specs.Maps.{nothing};
 ghost use Rattle.memory_bytes.specs.Shadow.{byte_in};
 ghost use Rattle.even_speed.specs.Owns as spec;
 
@@ -46,8 +47,7 @@ pub(crate) fn bytes_of(owns: &[Own], core: u32) -> &ShadowBytes
 /// Notes what these entries made of what the cores have stored.
 pub(crate) fn keep_all(owns: &mut Vec<Own>, entries: &[Entry]) -> Result<(), NoMemory>
     requires { All (spec.IsNotable (length owns.old.items)) entries.now }
-    ensures len { length owns.new.items ≡ length owns.old.items }
-    ensures kept { OnOk result ((k : ℕ) → spec.own_at owns.new.items k ≡ spec.owns_after (spec.own_at owns.old.items) entries.now k) }
+    ensures { spec.HaveStored result owns.old.items owns.new.items (spec.owns_after (spec.own_at owns.old.items) entries.now) }
 {
     for entry in entries {
         keep(owns, *entry)?;
@@ -58,12 +58,11 @@ pub(crate) fn keep_all(owns: &mut Vec<Own>, entries: &[Entry]) -> Result<(), NoM
 /// Notes what an entry made of what the cores have stored.
 fn keep(owns: &mut Vec<Own>, entry: Entry) -> Result<(), NoMemory>
     requires { spec.IsNotable (length owns.old.items) entry }
-    ensures len { length owns.new.items ≡ length owns.old.items }
-    ensures kept { OnOk result ((k : ℕ) → spec.own_at owns.new.items k ≡ spec.owned_by (spec.own_at owns.old.items) entry.by entry.what k) }
+    ensures { spec.HaveStored result owns.old.items owns.new.items (spec.owned_by (spec.own_at owns.old.items) entry.by entry.what) }
 {
     match entry.what {
-        What::Start(_) | What::Restart => begin(owns, entry.by),
-        What::Publish => publish(owns, entry.by),
+        What::Start(_) | What::Restart => own_nothing(owns, entry.by, false),
+        What::Publish => own_nothing(owns, entry.by, true),
         What::Store { addr, width, value } => return store(owns, entry.by, addr, width, value),
         What::Load { .. } | What::Hurt(_) | What::Cancel(_) => (),
         What::Commit | What::Fault { .. } => (),
@@ -71,35 +70,24 @@ fn keep(owns: &mut Vec<Own>, entry: Entry) -> Result<(), NoMemory>
     Ok(())
 }
 
-/// A core begins an attempt.
-fn begin(owns: &mut Vec<Own>, core: u32)
+/// A core owns no bytes from now on: it begins an attempt, or publishes, and is straight then.
+fn own_nothing(owns: &mut Vec<Own>, core: u32, straight: bool)
     requires { core < length owns.old.items }
     ensures len { length owns.new.items ≡ length owns.old.items }
-    ensures kept { (k : ℕ) → spec.own_at owns.new.items k ≡ spec.with_own (spec.own_at owns.old.items) core spec.none_owned k }
+    ensures kept { (k : ℕ) → spec.own_at owns.new.items k
+        ≡ spec.with_own (spec.own_at owns.old.items) core (record { bytes = nothing; straight = straight }) k }
 {
     let own = &mut owns[core as usize];
     own.bytes.clear();
-    own.straight = false;
-}
-
-/// A core commits what it has stored, and what it will store.
-fn publish(owns: &mut Vec<Own>, core: u32)
-    requires { core < length owns.old.items }
-    ensures len { length owns.new.items ≡ length owns.old.items }
-    ensures kept { (k : ℕ) → spec.own_at owns.new.items k ≡ spec.with_own (spec.own_at owns.old.items) core spec.all_committed k }
-{
-    let own = &mut owns[core as usize];
-    own.bytes.clear();
-    own.straight = true;
+    own.straight = straight;
 }
 
 /// A core stores the low bytes of a value.
 fn store(owns: &mut Vec<Own>, core: u32, addr: u32, width: u32, value: u32) -> Result<(), NoMemory>
     requires core { core < length owns.old.items }
     requires small { addr + width < 2 ^ 32 }
-    ensures len { length owns.new.items ≡ length owns.old.items }
-    ensures kept { OnOk result ((k : ℕ) → spec.own_at owns.new.items k
-        ≡ spec.with_own (spec.own_at owns.old.items) core (spec.with_store addr width value (spec.own_at owns.old.items core)) k) }
+    ensures { spec.HaveStored result owns.old.items owns.new.items
+        (spec.with_own (spec.own_at owns.old.items) core (spec.with_store addr width value (spec.own_at owns.old.items core))) }
 {
     let own = &mut owns[core as usize];
     if own.straight {

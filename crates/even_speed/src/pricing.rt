@@ -120,9 +120,7 @@ fn if_needed(needs: bool, free: u64, at: u64) -> u64
 
 /// Up to when the bus is held that is free from this time on, where a turn that began at that time holds it so long.
 fn held_until(bus: u64, at: u64, messages: u64) -> u64
-    requires bus { bus < 2 ^ 62 }
-    requires at { at < 2 ^ 62 }
-    requires messages { messages < 2 ^ 62 }
+    requires { spec.later bus at + messages < 2 ^ 64 }
     ensures { result ≡ spec.held_until bus at messages }
 {
     if messages == 0 {

@@ -1,7 +1,7 @@
 //! The turns of a run at even speed.
-ghost use Rattle.std.specs.Prelude.{◌≡◌, ◌≢◌, ◌≤◌, ◌<◌, ◌-◌, ◌+◌, ◌*◌, ◌^◌, [], ℕ, None, Some, Ok, OnOk, true, length, take, option_map, ◌==◌, if◌then◌else◌};
+ghost use Rattle.std.specs.Prelude.{◌≡◌, ◌≢◌, ◌≤◌, ◌<◌, ◌-◌, ◌+◌, ◌*◌, ◌^◌, [], ℕ, None, Some, Ok, OnOk, true, length, take, option_map};
 ghost use Rattle.memory_bytes.specs.Shadow.{byte_in};
-ghost use Rattle.rv32_image.specs.Image.{IsImage, LoadedImage};
+ghost use Rattle.rv32_image.specs.Image.{LoadedImage};
 ghost use Rattle.rv32_exec.specs.Hart.{HartState};
 ghost use Rattle.rv32_exec.specs.NextEvent.{next_event};
 ghost use Rattle.spec_history.specs.FlatState.{FlatState};
@@ -10,7 +10,7 @@ ghost use Rattle.homefree.specs.BookView.{IsOfSameLoop, ReplaysTo};
 ghost use Rattle.homefree.specs.Counted.{IsNoMore};
 ghost use Rattle.homefree.specs.Driven.{Driven, IsInOrder, TurnedWith, driver, with_held};
 ghost use Rattle.homefree.specs.Grown.{GrowsBy};
-ghost use Rattle.homefree.specs.Held.{HaveArrived, harts_of, held_at, held_by};
+ghost use Rattle.homefree.specs.Held.{HaveArrived, harts_of, held_by};
 ghost use Rattle.even_speed.specs.Even as spec;
 ghost use Rattle.even_speed.specs.Held as held_spec;
 ghost use Rattle.even_speed.specs.Held.{held_in};
@@ -112,7 +112,7 @@ pub fn drive_evenly<S: PricedStore>(
             return Err(TurnFault::NoMemory);
         };
         let restarted = book.totals().restarts != restarts;
-        let executed = executed_by(image, &held, turn.core, &answer);
+        let executed = executed_by(image, &held[turn.core as usize], &answer);
         let clock = clock.answered(turn.at, restarted, executed, &turn.price.spent, &answer);
         set_clock(&mut clocks, turn.core, clock);
         let steps = free.over(turn.at, &turn.price);
@@ -173,7 +173,6 @@ fn held_cores<S: EpochStore>(
     cores: u32,
 ) -> [bool; MAX_CORES]
     requires image { book.now.image ≡ image.now }
-    requires limits { IsImage image.now }
     requires few { cores ≤ 16 }
     requires cores { length owns.now ≡ cores }
     requires seats { (k : ℕ) → seat_at seats.now k ≡ seats_after none_seated book.now.history k }
@@ -188,20 +187,11 @@ fn held_cores<S: EpochStore>(
     let first = book.homefree();
     for core in 0..cores {
         let seat = seat_of(seats, core);
-        let arrived = held_of(held, core);
         let own = bytes_of(owns, core);
-        let waits = is_held(image, holds, first, seat, own, &arrived);
-        set_held(&mut waiting, core, waits);
+        let waits = is_held(image, holds, first, seat, own, &held[core as usize]);
+        waiting[core as usize] = waits;
     }
     waiting
-}
-
-/// Sets whether a core is held.
-fn set_held(waiting: &mut [bool; MAX_CORES], core: u32, held: bool)
-    requires { core < 16 }
-    ensures { (k : ℕ) → is_held_in waiting.new k ≡ (if k == core then held else is_held_in waiting.old k) }
-{
-    waiting[core as usize] = held;
 }
 
 /// Whether a core is held that runs this, has stored this, and has this in hand.
@@ -213,8 +203,7 @@ fn is_held(
     own: &ShadowBytes,
     arrived: &Option<Arrived>,
 ) -> bool
-    requires image { IsImage image.now }
-    requires arrived { IfArrived image.now arrived.now }
+    requires { IfArrived image.now arrived.now }
     ensures { result ≡ held_spec.is_held (holding_of holds.now) image.now homefree (epoch_kept seat) (byte_in own.now.cells) (option_map (λ a. a.base) arrived.now) }
 {
     match (seat, arrived) {
@@ -236,11 +225,10 @@ fn waits_at(
     own: &ShadowBytes,
     arrived: &Arrived,
 ) -> bool
-    requires image { IsImage image.now }
-    requires arrived { IfArrived image.now (Some arrived.now) }
+    requires { IfArrived image.now (Some arrived.now) }
     ensures { result ≡ held_spec.waits_at (holding_of holds.now) homefree epoch (byte_in own.now.cells) arrived.entry.now }
 {
-    let _ = image;
+    let _ = image.size();
     match arrived.at() {
         Stop::Load { addr, width, .. } => {
             holds.place(arrived.now().pc()) || holds.reads_stored(homefree, epoch, own, addr, width)
@@ -279,31 +267,16 @@ fn note_from<S: EpochStore>(seats: &mut [Option<Seat>; MAX_CORES], book: &Book<S
     note_all(seats, &book.history()[place..]);
 }
 
-/// What a core has in hand.
-fn held_of(held: &[Option<Arrived>; MAX_CORES], core: u32) -> Option<Arrived>
-    requires { core < 16 }
-    ensures { result ≡ held_at held.now core }
-{
-    held[core as usize]
-}
-
-/// How many instructions the core executes from its hart to its next event, after this answer.
-fn executed_by(
-    image: &Image,
-    held: &[Option<Arrived>; MAX_CORES],
-    core: u32,
-    answer: &Answer,
-) -> u64
-    requires core { core < 16 }
-    requires image { IsImage image.now }
-    requires arrived { HaveArrived image.now held.now }
-    requires base { (hart : HartState) → answer.now ≡ Answer.Go hart → harts_of held.now core ≡ Some hart }
+/// How many instructions a core that has this in hand executes from its hart to its next event, after this answer.
+fn executed_by(image: &Image, arrived: &Option<Arrived>, answer: &Answer) -> u64
+    requires arrived { IfArrived image.now arrived.now }
+    requires base { (hart : HartState) → answer.now ≡ Answer.Go hart → option_map (λ a. a.base) arrived.now ≡ Some hart }
     ensures is { result ≡ spec.executed_by image.now answer.now }
     ensures few { result ≤ 1000001 }
 {
-    let _ = image;
+    let _ = image.size();
     match answer {
-        Answer::Go(hart) => match held_of(held, core) {
+        Answer::Go(hart) => match arrived {
             Some(arrived) => arrived.now().done() - hart.done(),
             None => 0,
         },

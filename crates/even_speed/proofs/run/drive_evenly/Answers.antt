@@ -1,5 +1,7 @@
-use Rattle.std.proofs.Common.{◌*◌, ◌&&◌, ◌⊎◌, suc, ◌<◌, ◌≤◌, Bool, None, Option, Ok, Err, Some, List, ℕ, ◌≡◌, ◌+◌, ◌∷◌, [], cond, true, false, ◌==◌, ◌≢◌, not, is_none, is_some, refl, sym, ap, subst, ◌∙◌, inl, inr, true≢false, arith}
+use Rattle.std.proofs.Common.{◌*◌, ◌&&◌, ◌⊎◌, suc, ◌<◌, ◌≤◌, Bool, None, Option, Ok, Err, Some, List, ℕ, ◌≡◌, ◌+◌, ◌∷◌, [], cond, true, false, ◌==◌, ◌≢◌, not, is_none, is_some, refl, sym, ap, subst, ◌∙◌, length, slice_index_or, option_map, eq-eqb, inl, inr, true≢false, arith}
 use Rattle.std.proofs.Math.Path.{fun_ext}
+use native.Mathlib.Decide.{dec_lt}
+use Rattle.std.proofs.lemmas.List.{get_or_default, get_or_past}
 use Rattle.std.proofs.lemmas.Result.{err_from_is_err_and}
 use Rattle.rv32_image.specs.Image.{IsImage}
 use Rattle.rv32_image.proofs.Bounds.{most_few}
@@ -7,12 +9,14 @@ use Rattle.rv32_image.proofs.SmallFacts.{none_and_some}
 use Rattle.rv32_exec.specs.declared.sequential.End.{End}
 use Rattle.run_ledger.specs.declared.counts.Counts.{Counts}
 use Rattle.homefree.specs.declared.answer.Answer.{Answer}
-use Rattle.homefree.specs.declared.answer.Answer.TheVariants.{Again, Over, Stopped}
+use Rattle.homefree.specs.declared.answer.Answer.TheVariants.{Again, Go, Over, Stopped}
 use Rattle.homefree.specs.declared.answer.Cause.{Cause}
 use Rattle.homefree.specs.declared.answer.StopCause.{StopCause}
 use Rattle.homefree.specs.Acted.{IfArrived}
-use Rattle.homefree.specs.Driven.{Driver, driver}
-use Rattle.homefree.specs.Held.{harts_of}
+use Rattle.rv32_exec.specs.Arrival.{Arrival}
+use Rattle.rv32_exec.specs.Hart.{HartState}
+use Rattle.homefree.specs.Driven.{Driver, driver, with_held}
+use Rattle.homefree.specs.Held.{harts_of, held_by}
 use Rattle.homefree.proofs.Books.Drives.{in_order, none_held, no_harts}
 use Rattle.even_speed.specs.declared.clock.Clock.{Clock}
 use Rattle.even_speed.specs.declared.clocks.Turn.{Turn}
@@ -155,26 +159,20 @@ next_turn-requires-clause-cores g c κs within = c.loop-taken.invariant.sound.co
 pub next_turn-requires-clause-waiting : goal.next_turn-requires-clause-waiting
 next_turn-requires-clause-waiting g c κs within = λ k below. c.held_cores-waiting.ensures k (subst (λ n. k < n) (c.loop-taken.invariant.same.cores ∙ c.requires.book.1) below)
 
-pub be_late-requires-clause-used : goal.be_late-requires-clause-used
-be_late-requires-clause-used g c = used_before c.loop-taken._taken c.loop-taken.book.cores c.loop-taken.free c.loop-taken.clocks.items c.loop-taken.invariant.sound (held_in (holding_of c.args.terms.now.holds) c.loop-taken.book (harts_of c.loop-taken.held)) (price_by g.S.PricedStore.prices g.S.EpochStore.waits c.args.terms.now.costs c.loop-taken.book (harts_of c.loop-taken.held)) c.in-Some.turn c.in-Some.ensures.next.0
+pub be_late-requires-clause-may : goal.be_late-requires-clause-may
+be_late-requires-clause-may g c = record {
+  before = used_before c.loop-taken._taken c.loop-taken.book.cores c.loop-taken.free c.loop-taken.clocks.items c.loop-taken.invariant.sound (held_in (holding_of c.args.terms.now.holds) c.loop-taken.book (harts_of c.loop-taken.held)) (price_by g.S.PricedStore.prices g.S.EpochStore.waits c.args.terms.now.costs c.loop-taken.book (harts_of c.loop-taken.held)) c.in-Some.turn c.in-Some.ensures.next.0;
+  whole = whole_before c.loop-taken._taken c.loop-taken.book.cores c.loop-taken.free c.loop-taken.clocks.items c.loop-taken.invariant.sound (held_in (holding_of c.args.terms.now.holds) c.loop-taken.book (harts_of c.loop-taken.held)) (price_by g.S.PricedStore.prices g.S.EpochStore.waits c.args.terms.now.costs c.loop-taken.book (harts_of c.loop-taken.held)) c.in-Some.turn c.in-Some.ensures.next.0;
+  later_on = due_before c.loop-taken._taken c.loop-taken.book.cores c.loop-taken.free c.loop-taken.clocks.items c.loop-taken.invariant.sound (held_in (holding_of c.args.terms.now.holds) c.loop-taken.book (harts_of c.loop-taken.held)) (price_by g.S.PricedStore.prices g.S.EpochStore.waits c.args.terms.now.costs c.loop-taken.book (harts_of c.loop-taken.held)) c.in-Some.turn c.in-Some.ensures.next.0;
+  soon = omega (arith, begins_by c.loop-taken._taken c.loop-taken.book.cores c.loop-taken.free c.loop-taken.clocks.items c.loop-taken.invariant.sound (held_in (holding_of c.args.terms.now.holds) c.loop-taken.book (harts_of c.loop-taken.held)) (price_by g.S.PricedStore.prices g.S.EpochStore.waits c.args.terms.now.costs c.loop-taken.book (harts_of c.loop-taken.held)) c.in-Some.turn c.in-Some.ensures.next.0, c.loop-taken-test.true);
+}
 
-pub be_late-requires-clause-whole : goal.be_late-requires-clause-whole
-be_late-requires-clause-whole g c = whole_before c.loop-taken._taken c.loop-taken.book.cores c.loop-taken.free c.loop-taken.clocks.items c.loop-taken.invariant.sound (held_in (holding_of c.args.terms.now.holds) c.loop-taken.book (harts_of c.loop-taken.held)) (price_by g.S.PricedStore.prices g.S.EpochStore.waits c.args.terms.now.costs c.loop-taken.book (harts_of c.loop-taken.held)) c.in-Some.turn c.in-Some.ensures.next.0
-
-pub be_late-requires-clause-due : goal.be_late-requires-clause-due
-be_late-requires-clause-due g c = due_before c.loop-taken._taken c.loop-taken.book.cores c.loop-taken.free c.loop-taken.clocks.items c.loop-taken.invariant.sound (held_in (holding_of c.args.terms.now.holds) c.loop-taken.book (harts_of c.loop-taken.held)) (price_by g.S.PricedStore.prices g.S.EpochStore.waits c.args.terms.now.costs c.loop-taken.book (harts_of c.loop-taken.held)) c.in-Some.turn c.in-Some.ensures.next.0
-
-pub be_late-requires-clause-at : goal.be_late-requires-clause-at
-be_late-requires-clause-at g c = omega (arith, begins_by c.loop-taken._taken c.loop-taken.book.cores c.loop-taken.free c.loop-taken.clocks.items c.loop-taken.invariant.sound (held_in (holding_of c.args.terms.now.holds) c.loop-taken.book (harts_of c.loop-taken.held)) (price_by g.S.PricedStore.prices g.S.EpochStore.waits c.args.terms.now.costs c.loop-taken.book (harts_of c.loop-taken.held)) c.in-Some.turn c.in-Some.ensures.next.0, c.loop-taken-test.true)
-
-pub answered-clock-requires-clause-used : goal.answered-clock-requires-clause-used
-answered-clock-requires-clause-used g c = subst (λ (k : Clock). used k ≤ c.in-Some.turn.at) (sym c.clock_of-clock.ensures) (used_at c.loop-taken._taken c.loop-taken.book.cores c.loop-taken.free c.be_late.new.clocks.items c.in-Some.turn c.in-Some.ensures.next.1 (lates_sound c.loop-taken._taken c.loop-taken.book.cores c.loop-taken.free c.loop-taken.clocks.items c.loop-taken.invariant.sound (held_in (holding_of c.args.terms.now.holds) c.loop-taken.book (harts_of c.loop-taken.held)) (price_by g.S.PricedStore.prices g.S.EpochStore.waits c.args.terms.now.costs c.loop-taken.book (harts_of c.loop-taken.held)) c.in-Some.turn c.in-Some.ensures.next.0 (queues_of c.args.terms.now) c.be_late.new.clocks.items c.be_late.ensures.len c.be_late.ensures.each) (late_turn c.loop-taken.free (price_by g.S.PricedStore.prices g.S.EpochStore.waits c.args.terms.now.costs c.loop-taken.book (harts_of c.loop-taken.held)) (dues (held_in (holding_of c.args.terms.now.holds) c.loop-taken.book (harts_of c.loop-taken.held)) (clock_at c.loop-taken.clocks.items)) (queues_of c.args.terms.now) (clock_at c.loop-taken.clocks.items) (clock_at c.be_late.new.clocks.items) c.loop-taken.book.cores c.in-Some.turn c.in-Some.ensures.next.0 c.be_late.ensures.each))
-
-pub answered-clock-requires-clause-whole : goal.answered-clock-requires-clause-whole
-answered-clock-requires-clause-whole g c = subst (λ (k : Clock). steps_of k.account ≡ told k) (sym c.clock_of-clock.ensures) (whole_at c.loop-taken._taken c.loop-taken.book.cores c.loop-taken.free c.be_late.new.clocks.items c.in-Some.turn c.in-Some.ensures.next.1 (lates_sound c.loop-taken._taken c.loop-taken.book.cores c.loop-taken.free c.loop-taken.clocks.items c.loop-taken.invariant.sound (held_in (holding_of c.args.terms.now.holds) c.loop-taken.book (harts_of c.loop-taken.held)) (price_by g.S.PricedStore.prices g.S.EpochStore.waits c.args.terms.now.costs c.loop-taken.book (harts_of c.loop-taken.held)) c.in-Some.turn c.in-Some.ensures.next.0 (queues_of c.args.terms.now) c.be_late.new.clocks.items c.be_late.ensures.len c.be_late.ensures.each) (late_turn c.loop-taken.free (price_by g.S.PricedStore.prices g.S.EpochStore.waits c.args.terms.now.costs c.loop-taken.book (harts_of c.loop-taken.held)) (dues (held_in (holding_of c.args.terms.now.holds) c.loop-taken.book (harts_of c.loop-taken.held)) (clock_at c.loop-taken.clocks.items)) (queues_of c.args.terms.now) (clock_at c.loop-taken.clocks.items) (clock_at c.be_late.new.clocks.items) c.loop-taken.book.cores c.in-Some.turn c.in-Some.ensures.next.0 c.be_late.ensures.each))
-
-pub answered-clock-requires-clause-at : goal.answered-clock-requires-clause-at
-answered-clock-requires-clause-at g c = omega (arith, begins_by c.loop-taken._taken c.loop-taken.book.cores c.loop-taken.free c.loop-taken.clocks.items c.loop-taken.invariant.sound (held_in (holding_of c.args.terms.now.holds) c.loop-taken.book (harts_of c.loop-taken.held)) (price_by g.S.PricedStore.prices g.S.EpochStore.waits c.args.terms.now.costs c.loop-taken.book (harts_of c.loop-taken.held)) c.in-Some.turn c.in-Some.ensures.next.0, c.loop-taken-test.true)
+pub answered-clock-requires-clause-turn : goal.answered-clock-requires-clause-turn
+answered-clock-requires-clause-turn g c = record {
+  before = subst (λ (k : Clock). used k ≤ c.in-Some.turn.at) (sym c.clock_of-clock.ensures) (used_at c.loop-taken._taken c.loop-taken.book.cores c.loop-taken.free c.be_late.new.clocks.items c.in-Some.turn c.in-Some.ensures.next.1 (lates_sound c.loop-taken._taken c.loop-taken.book.cores c.loop-taken.free c.loop-taken.clocks.items c.loop-taken.invariant.sound (held_in (holding_of c.args.terms.now.holds) c.loop-taken.book (harts_of c.loop-taken.held)) (price_by g.S.PricedStore.prices g.S.EpochStore.waits c.args.terms.now.costs c.loop-taken.book (harts_of c.loop-taken.held)) c.in-Some.turn c.in-Some.ensures.next.0 (queues_of c.args.terms.now) c.be_late.new.clocks.items c.be_late.ensures.len c.be_late.ensures.each) (late_turn c.loop-taken.free (price_by g.S.PricedStore.prices g.S.EpochStore.waits c.args.terms.now.costs c.loop-taken.book (harts_of c.loop-taken.held)) (dues (held_in (holding_of c.args.terms.now.holds) c.loop-taken.book (harts_of c.loop-taken.held)) (clock_at c.loop-taken.clocks.items)) (queues_of c.args.terms.now) (clock_at c.loop-taken.clocks.items) (clock_at c.be_late.new.clocks.items) c.loop-taken.book.cores c.in-Some.turn c.in-Some.ensures.next.0 c.be_late.ensures.each));
+  whole = subst (λ (k : Clock). steps_of k.account ≡ told k) (sym c.clock_of-clock.ensures) (whole_at c.loop-taken._taken c.loop-taken.book.cores c.loop-taken.free c.be_late.new.clocks.items c.in-Some.turn c.in-Some.ensures.next.1 (lates_sound c.loop-taken._taken c.loop-taken.book.cores c.loop-taken.free c.loop-taken.clocks.items c.loop-taken.invariant.sound (held_in (holding_of c.args.terms.now.holds) c.loop-taken.book (harts_of c.loop-taken.held)) (price_by g.S.PricedStore.prices g.S.EpochStore.waits c.args.terms.now.costs c.loop-taken.book (harts_of c.loop-taken.held)) c.in-Some.turn c.in-Some.ensures.next.0 (queues_of c.args.terms.now) c.be_late.new.clocks.items c.be_late.ensures.len c.be_late.ensures.each) (late_turn c.loop-taken.free (price_by g.S.PricedStore.prices g.S.EpochStore.waits c.args.terms.now.costs c.loop-taken.book (harts_of c.loop-taken.held)) (dues (held_in (holding_of c.args.terms.now.holds) c.loop-taken.book (harts_of c.loop-taken.held)) (clock_at c.loop-taken.clocks.items)) (queues_of c.args.terms.now) (clock_at c.loop-taken.clocks.items) (clock_at c.be_late.new.clocks.items) c.loop-taken.book.cores c.in-Some.turn c.in-Some.ensures.next.0 c.be_late.ensures.each));
+  soon = omega (arith, begins_by c.loop-taken._taken c.loop-taken.book.cores c.loop-taken.free c.loop-taken.clocks.items c.loop-taken.invariant.sound (held_in (holding_of c.args.terms.now.holds) c.loop-taken.book (harts_of c.loop-taken.held)) (price_by g.S.PricedStore.prices g.S.EpochStore.waits c.args.terms.now.costs c.loop-taken.book (harts_of c.loop-taken.held)) c.in-Some.turn c.in-Some.ensures.next.0, c.loop-taken-test.true);
+}
 
 pub answered-clock-requires-clause-spent : goal.answered-clock-requires-clause-spent
 answered-clock-requires-clause-spent g c = omega (arith, c.in-Some.ensures.next.1.spent)
@@ -420,3 +418,19 @@ pub returns-clause-ends : goal.returns-clause-ends
 returns-clause-ends g c = λ fresh unstopped is.
     never_spent c.loop-taken.book (clock_at c.loop-taken.clocks.items) c.loop-taken._taken (c.loop-taken.invariant.lasting fresh) c.loop-taken.invariant.few c.loop-taken.invariant.sound.few
     c.loop-taken-test.false
+
+-- what it goes on with
+goes_with : (hands : ℕ → Option HartState) (core : ℕ) (answer : Answer) (hart : HartState) → answer ≡ Go hart → with_held hands core (held_by (Ok answer) (hands core)) core ≡ Some hart
+goes_with hands core answer hart is = rw (is, eq-eqb core core refl) refl
+
+-- is in hand: the core is one of the list's
+in_hand : (held : List (Option Arrival)) (core : ℕ) (a : Option Arrival) (hart : HartState) → harts_of held core ≡ Some hart → option_map (λ (b : Arrival). b.base) (slice_index_or held core a) ≡ Some hart
+in_hand held core a hart is = elim (dec_lt core (length held)) [
+  | yes there ↦ ap (option_map (λ (b : Arrival). b.base)) (get_or_default held core a None there) ∙ is
+  | no past ↦ absurd (none_and_some (harts_of held core) hart (ap (option_map (λ (b : Arrival). b.base)) (get_or_past held core None (omega (arith, past)))) is)
+]
+
+pub executed_by-executed-requires-clause-base : goal.executed_by-executed-requires-clause-base
+executed_by-executed-requires-clause-base g c = λ hart is.
+    let core = c.in-Some.turn.core in
+    in_hand c.step.new.held core c.index-held-turn.result hart (c.in_ok-answer.ensures.harts core ∙ goes_with (harts_of c.loop-taken.held) core c.in_ok-answer.answer hart is)

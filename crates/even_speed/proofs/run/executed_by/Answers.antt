@@ -1,9 +1,8 @@
-use Rattle.std.proofs.Common.{◌≡◌, ◌-◌, ◌≤◌, ℕ, sym, ap, arith}
+use Rattle.std.proofs.Common.{◌≡◌, ◌-◌, ◌≤◌, ℕ, ap, arith}
 use Rattle.rv32_image.specs.Image.{LoadedImage}
 use Rattle.rv32_exec.specs.Arrival.{Arrival}
 use Rattle.rv32_exec.specs.Hart.{HartState}
 use Rattle.rv32_exec.specs.NextEvent.{next_event}
-use Rattle.homefree.specs.Held.{held_at}
 use Rattle.even_speed.proofs.Events.{came_from, few_to_event, later_event}
 use Rattle.even_speed.proofs.run.executed_by.Goals as goal
 
@@ -16,12 +15,12 @@ most image hart now a done before limit came is counted start = omega (arith, fe
 
 pub overflow_sub-result : goal.overflow_sub-result
 overflow_sub-result c =
-    let came = came_from c.args.image.now (held_at c.args.held.now c.args.core) c.in-Some.arrived c.in-Go.hart (c.requires.arrived c.args.core)
-    (sym c.in-Some.ensures) (c.requires.base c.in-Go.hart c.in-Go.is) in
+    let came = came_from c.args.image.now c.args.arrived.now c.in-Some.arrived c.in-Go.hart c.requires.arrived
+    c.in-Some.is (c.requires.base c.in-Go.hart c.in-Go.is) in
     least c.args.image.now c.in-Go.hart c.now.result c.in-Some.arrived c.done.result c.done-in-Some.result came c.now.ensures c.done.ensures c.done-in-Some.ensures
 
 pub returns-in-Some-clause-few : goal.returns-in-Some-clause-few
 returns-in-Some-clause-few c =
-    let came = came_from c.args.image.now (held_at c.args.held.now c.args.core) c.in-Some.arrived c.in-Go.hart (c.requires.arrived c.args.core)
-    (sym c.in-Some.ensures) (c.requires.base c.in-Go.hart c.in-Go.is) in
-    most c.args.image.now c.in-Go.hart c.now.result c.in-Some.arrived c.done.result c.done-in-Some.result c.requires.image.limit_most came c.now.ensures c.done.ensures c.done-in-Some.ensures
+    let came = came_from c.args.image.now c.args.arrived.now c.in-Some.arrived c.in-Go.hart c.requires.arrived
+    c.in-Some.is (c.requires.base c.in-Go.hart c.in-Go.is) in
+    most c.args.image.now c.in-Go.hart c.now.result c.in-Some.arrived c.done.result c.done-in-Some.result c.size.ensures.limits.limit_most came c.now.ensures c.done.ensures c.done-in-Some.ensures

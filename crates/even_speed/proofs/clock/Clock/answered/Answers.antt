@@ -6,5 +6,5 @@ use Rattle.even_speed.proofs.clock.Clock.answered.Goals as goal
 
 pub paid-requires : goal.paid-requires
 paid-requires c =
-    let few = begun_few c.args.at c.args.restarted c.args.self c.args.self.runs c.args.restarted refl refl c.requires.used in
-    omega (arith, few, ap (λ (k : Clock). total k.spent) c.begun.ensures, c.requires.at, c.requires.spent)
+    let few = begun_few c.args.at c.args.restarted c.args.self c.args.self.runs c.args.restarted refl refl c.requires.turn.before in
+    omega (arith, few, ap (λ (k : Clock). total k.spent) c.begun.ensures, c.requires.turn.soon, c.requires.spent)
