@@ -1,11 +1,11 @@
 -- The rows in which a core on the bus has stored bytes.
-use Rattle.std.proofs.Common.{◌≡◌, ℕ, ◌+◌, ◌*◌, ◌/◌, ◌%◌, ◌<◌, zero, suc, true, false, List, [], ◌∷◌, option_map, length, slice_get, Option, Some, None, inl, inr, refl, sym, ap, subst, ◌∙◌, ◌++◌, add-one, arith, true≢false}
+use Rattle.std.proofs.Common.{◌≡◌, ℕ, ◌+◌, ◌*◌, ◌/◌, ◌%◌, ◌<◌, ◌≤◌, zero, suc, true, false, List, [], ◌∷◌, option_map, length, slice_get, Option, Some, None, inl, inr, refl, sym, ap, subst, ◌∙◌, ◌++◌, add-one, arith, true≢false}
 use Rattle.std.specs.BTreeSet.{BTreeSet, contains}
 use Rattle.std.specs.List.{slice_index_or}
 use Rattle.std.specs.Ordering.{nat_cmp}
 use Rattle.std.proofs.Math.Nat.{mod-lt, mod-eq_of_lt, mul-div_cancel}
 use Rattle.std.proofs.lemmas.Nat.{div-mul-add, mod-mul-add}
-use Rattle.std.proofs.lemmas.Bool.{cases_eq}
+use Rattle.std.proofs.lemmas.Bool.{cases_eq, or_right}
 use Rattle.std.proofs.lemmas.Bool.Decides.{nat_tests}
 use Rattle.std.proofs.lemmas.List.{get_or_append_left, get_or_push, length_push}
 use Rattle.std.proofs.lemmas.Option.{slice_get_within}
@@ -24,7 +24,8 @@ use Rattle.bus_states.specs.Coherent.{IsCoherent}
 use Rattle.spec_bus.specs.declared.bus_core.Core.{Core}
 use Rattle.spec_bus.specs.Cached.{CachedView, bus, line_of_core, machine_of, store_view}
 use Rattle.spec_bus.specs.Parts.{state_or_none}
-use Rattle.turn_steps.specs.Caches.{AreHeld, AreShown, AreWhole, HasOwnRows, HasRowsOf, Held, held, line_at, lines_below, no_line, place_count}
+use Rattle.turn_steps.specs.Caches.{AreHeld, AreShown, AreWhole, HasOwnRows, HasRowsOf, Held, held, line_at, lines_below, is_of_five, no_line, place_count}
+use Rattle.turn_steps.specs.Laws.{Adds}
 use Rattle.turn_steps.specs.Rows.{row_count}
 
 -- one way more
@@ -35,6 +36,12 @@ own_more machine size ways i old new kept own one place below = elim (cases_eq p
   | inl here ↦ subst (λ (p : ℕ). HasOwnRows machine size (slice_index_or ways p no_line) new) (sym here) one
   | inr other ↦ λ a inside lies stored. kept (a / 16) (own place (omega (arith, below, other)) a inside lies stored)
 ]
+
+-- a set to which five rows were added has each of them
+pub has_five : (old new : BTreeSet ℕ) (first row : ℕ) → Adds old new (is_of_five first) → first ≤ row → row ≤ first + 4 → contains nat_cmp new row ≡ true
+has_five old new first row adds low high =
+    let five : is_of_five first row ≡ true = grind (arith, nat_tests) in
+    adds row ∙ or_right (contains nat_cmp old row) (is_of_five first row) five
 
 -- ---- a stored byte of a core on the bus lies in one of its ways
 

@@ -1,6 +1,6 @@
 -- What a core on the bus holds: its cache way by way, and its buffer; and the text of what of it changed.
 -- Source: this project.
-use Rattle.std.specs.Prelude.{◌≡◌, ℕ, zero, suc, ◌+◌, ◌-◌, ◌*◌, ◌/◌, ◌%◌, ◌==◌, ◌&&◌, ◌<◌, ◌≤◌, nat_le, Bool, true, false, List, [], ◌∷◌, ◌++◌, length, slice_get, Option, Some, None, option_map, if◌then◌else◌}
+use Rattle.std.specs.Prelude.{◌≡◌, ℕ, zero, suc, ◌+◌, ◌-◌, ◌*◌, ◌/◌, ◌%◌, ◌==◌, ◌&&◌, ◌<◌, nat_le, Bool, true, false, List, [], ◌∷◌, ◌++◌, length, slice_get, Option, Some, None, option_map, if◌then◌else◌}
 use Rattle.std.specs.List.{find, range_with_len, slice_index_or}
 use Rattle.std.specs.BTreeSet.{BTreeSet, contains}
 use Rattle.std.specs.Ordering.{nat_cmp}
@@ -143,6 +143,6 @@ abbrev pub first_row : Option Apart → ℕ → ℕ → ℕ → ℕ
 first_row None size long line = line / 16
 first_row (Some apart) size long line = if nat_le size line then (apart.first + (line - size) / long * apart.piece) / 16 else line / 16
 
--- it has this row and the four behind it
-abbrev pub HasFiveRows : ℕ → BTreeSet ℕ → Type 0
-HasFiveRows first rows = (row : ℕ) → first ≤ row → row ≤ first + 4 → contains nat_cmp rows row ≡ true
+-- the row is this one or one of the four behind it
+abbrev pub is_of_five : ℕ → ℕ → Bool
+is_of_five first row = nat_le first row && nat_le row (first + 4)

@@ -1,11 +1,12 @@
 //! The caches and the buffers of all cores on the bus.
 ghost use Rattle.std.specs.Prelude.{◌≡◌, ◌<◌, ◌≤◌, ◌++◌, ℕ, IfOk, OnOk, length};
-ghost use Rattle.rv32_image.specs.Machine.{IsMachine, IsMachineFor};
+ghost use Rattle.rv32_image.specs.Machine.{IsMachine};
 ghost use Rattle.rv32_image.specs.Places.{of_places};
 ghost use Rattle.spec_bus.specs.Cached.{CachedView, bus};
 ghost use Rattle.turn_steps.specs.Caches as spec;
 
 use crate::caches::ShownCore;
+use crate::machine::{KnownMachine, Layout, PlacedCaches};
 use crate::store::ShownStore;
 use rv32_exec::{Image, Machine};
 use spec_bus::CachedBus;
@@ -17,13 +18,10 @@ use violations::{Attempt, EpochStore};
 /// What the caches and the buffers on a bus were shown to hold.
 #[derive(Drop)]
 pub struct ShownBus {
-    /// The image's machine.
-    machine: Machine,
-    /// The bytes of memory.
-    size: u32,
+    /// The image's machine, and its bytes of memory.
+    layout: Layout,
     /// Core by core.
     cores: Vec<ShownCore>,
-    ghost allowed: { IsMachineFor size machine },
 }
 
 impl ShownStore for CachedBus {
@@ -31,9 +29,9 @@ impl ShownStore for CachedBus {
 
     type Shown = ShownBus;
 
-    ghost fits = { λ shown shape. IsOfShape shown.machine shown.size shown.cores.items shape };
+    ghost fits = { λ shown shape. IsOfShape shown.layout.machine shown.layout.size shown.cores.items shape };
 
-    ghost shows = { λ shown v. AreShown shown.machine shown.size shown.cores.items v };
+    ghost shows = { λ shown v. AreShown shown.layout.machine shown.layout.size shown.cores.items v };
 
     ghost changes = { cached_changes };
 
@@ -51,10 +49,14 @@ impl ShownStore for CachedBus {
     ) -> Result<ShownBus, AllocError> {
         self.look();
         let machine = image.machine();
-        let cores = shown_cores(alloc, self, of_places(machine), cores)?;
+        let placed = PlacedCaches {
+            caches: self,
+            machine: of_places(machine),
+        };
+        let cores = shown_cores(alloc, &placed, cores)?;
+        let size = image.size();
         Ok(ShownBus {
-            machine,
-            size: image.size(),
+            layout: Layout { machine, size },
             cores,
         })
     }
@@ -68,14 +70,11 @@ impl ShownStore for CachedBus {
         _added: &[Entry],
     ) -> Result<(), AllocError> {
         self.look();
-        let cores = push_bus_changes(
-            alloc,
-            text,
-            self,
-            of_places(shown.machine),
-            self.cores(),
-            shown.cores.as_slice(),
-        )?;
+        let placed = PlacedCaches {
+            caches: self,
+            machine: of_places(shown.layout.machine),
+        };
+        let cores = push_bus_changes(alloc, text, &placed, self.cores(), shown.cores.as_slice())?;
         shown.cores = cores;
         Ok(())
     }
@@ -86,37 +85,35 @@ impl ShownStore for CachedBus {
         rows: &mut BTreeSet<u32>,
     ) -> Result<(), AllocError> {
         match shown.cores.get(core as usize) {
-            Some(held) => held.push_own_rows(shown.machine, shown.size, rows),
+            Some(held) => held.push_own_rows(shown.layout, rows),
             None => Ok(()),
         }
     }
 }
 
 /// The machine of the places, on which nothing lies apart.
-fn of_places(machine: Machine) -> Machine
+fn of_places(machine: Machine) -> KnownMachine
+    requires { IsMachine machine }
     ensures { result ≡ of_places machine }
 {
-    Machine {
+    KnownMachine::new(Machine {
         apart: None,
         ..machine
-    }
+    })
 }
 
 /// What each of so many cores holds.
 fn shown_cores(
     alloc: Global,
-    caches: &CachedBus,
-    machine: Machine,
+    placed: &PlacedCaches,
     cores: u32,
 ) -> Result<Vec<ShownCore>, AllocError>
-    requires cores { cores ≤ (bus caches.now).shape.cores }
-    requires machine { IsMachine machine }
-    requires ways { machine.ways ≤ (bus caches.now).geometry.ways }
-    ensures { IfOk result (λ shown. spec.AreHeld machine caches.now cores shown.items) }
+    requires { cores ≤ (bus placed.now.caches.now).shape.cores }
+    ensures { IfOk result (λ shown. spec.AreHeld placed.now.machine placed.now.caches.now cores shown.items) }
 {
     let mut shown = Vec::new(alloc);
     for core in 0..cores {
-        shown.push(ShownCore::of(alloc, caches, machine, core)?)?;
+        shown.push(ShownCore::of(alloc, placed, core)?)?;
     }
     Ok(shown)
 }
@@ -125,23 +122,21 @@ fn shown_cores(
 fn push_bus_changes(
     alloc: Global,
     text: &mut Vec<u8>,
-    caches: &CachedBus,
-    machine: Machine,
+    placed: &PlacedCaches,
     cores: u32,
     shown: &[ShownCore],
 ) -> Result<Vec<ShownCore>, AllocError>
-    requires cores { cores ≤ (bus caches.now).shape.cores }
+    requires cores { cores ≤ (bus placed.now.caches.now).shape.cores }
     requires shown { length shown.now ≡ cores }
-    requires whole { spec.AreWhole machine shown.now }
-    requires machine { IsMachine machine }
-    requires ways { machine.ways ≤ (bus caches.now).geometry.ways }
-    ensures held { IfOk result (λ now. spec.AreHeld machine caches.now cores now.items) }
-    ensures text { (old : CachedView) → spec.AreHeld machine old cores shown.now → OnOk result (text.new.items ≡ text.old.items ++ spec.held_changes machine old caches.now cores) }
+    requires whole { spec.AreWhole placed.now.machine shown.now }
+    ensures held { IfOk result (λ now. spec.AreHeld placed.now.machine placed.now.caches.now cores now.items) }
+    ensures text { (old : CachedView) → spec.AreHeld placed.now.machine old cores shown.now
+        → OnOk result (text.new.items ≡ text.old.items ++ spec.held_changes placed.now.machine old placed.now.caches.now cores) }
 {
     let mut now = Vec::new(alloc);
     for core in 0..cores {
-        let held = ShownCore::of(alloc, caches, machine, core)?;
-        shown[core as usize].push_changes(alloc, text, machine, core, &held)?;
+        let held = ShownCore::of(alloc, placed, core)?;
+        shown[core as usize].push_changes(alloc, text, placed.machine, core, &held)?;
         now.push(held)?;
     }
     Ok(now)

@@ -1,18 +1,18 @@
 //! The cache and the buffer of a core on the bus.
 ghost use Rattle.std.specs.Prelude.{◌≡◌, ◌+◌, ◌*◌, ◌/◌, ◌^◌, ◌++◌, ◌<◌, ◌≤◌, ℕ, length, IfOk, OnOk};
 ghost use Rattle.std.specs.List.{slice_index_or};
-ghost use Rattle.rv32_image.specs.Machine.{IsMachine, IsMachineFor};
 ghost use Rattle.spec_bus.specs.Cached.{bus};
 ghost use Rattle.spec_bus.specs.Laws.{IsPlacedCore};
 ghost use Rattle.turn_steps.specs.Caches as spec;
 ghost use Rattle.turn_steps.specs.Caches.{no_line};
+ghost use Rattle.turn_steps.specs.Laws.{Adds};
 
+use crate::machine::{KnownMachine, Layout, PlacedCaches};
 use crate::orbs::push_orb_change;
-use crate::ways::{place_count, push_way_changes};
+use crate::ways::push_way_changes;
 use cache_lines::Line;
 use orb::Orb;
-use rv32_image::{Apart, Machine};
-use spec_bus::CachedBus;
+use rv32_image::Apart;
 use std::alloc::{AllocError, Global};
 use std::collections::BTreeSet;
 use std::marker::Model;
@@ -36,21 +36,14 @@ impl ShownCore {
     /// What a core's cache, one of this machine, and its buffer hold: that counts as shown.
     ///
     /// `AllocError`: memory ran out.
-    pub fn of(
-        alloc: Global,
-        caches: &CachedBus,
-        machine: Machine,
-        core: u32,
-    ) -> Result<ShownCore, AllocError>
-        requires core { core < (bus caches.now).shape.cores }
-        requires machine { IsMachine machine }
-        requires ways { machine.ways ≤ (bus caches.now).geometry.ways }
-        ensures held { IfOk result (λ shown. shown ≡ spec.held machine caches.now core) }
-        ensures placed { IsPlacedCore caches.now.cores core }
+    pub fn of(alloc: Global, placed: &PlacedCaches, core: u32) -> Result<ShownCore, AllocError>
+        requires { core < (bus placed.now.caches.now).shape.cores }
+        ensures held { IfOk result (λ shown. shown ≡ spec.held placed.now.machine placed.now.caches.now core) }
+        ensures placed { IsPlacedCore placed.now.caches.now.cores core }
     {
-        caches.look_cache(core);
-        let orb = lines_of(alloc, caches.orb_at(core))?;
-        let ways = ways_of(alloc, caches, machine, core)?;
+        placed.caches.look_cache(core);
+        let orb = lines_of(alloc, placed.caches.orb_at(core))?;
+        let ways = ways_of(alloc, placed, core)?;
         Ok(ShownCore { ways, orb })
     }
 
@@ -62,11 +55,10 @@ impl ShownCore {
         &self,
         alloc: Global,
         text: &mut Vec<u8>,
-        machine: Machine,
+        machine: KnownMachine,
         core: u32,
         now: &ShownCore,
     ) -> Result<(), AllocError>
-        requires machine { IsMachine machine }
         requires old { spec.place_count machine ≤ length self.now.ways }
         requires now { spec.place_count machine ≤ length now.now.ways }
         ensures { OnOk result (text.new.items ≡ text.old.items ++ spec.changes machine core self.now now.now) }
@@ -86,52 +78,39 @@ impl ShownCore {
     /// machine; others may be with them.
     ///
     /// `AllocError`: memory ran out. Some of the rows may be there.
-    pub fn push_own_rows(
-        &self,
-        machine: Machine,
-        size: u32,
-        rows: &mut BTreeSet<u32>,
-    ) -> Result<(), AllocError>
-        requires { IsMachineFor size machine }
+    pub fn push_own_rows(&self, layout: Layout, rows: &mut BTreeSet<u32>) -> Result<(), AllocError>
         ensures kept { OnOk result (spec.HasRowsOf rows.old rows.new) }
         ensures own { OnOk result ((place : ℕ) → place < length self.now.ways
-            → spec.HasOwnRows machine size (slice_index_or self.now.ways place no_line) rows.new) }
+            → spec.HasOwnRows layout.machine layout.size (slice_index_or self.now.ways place no_line) rows.new) }
     {
         for line in self.ways.as_slice() {
-            push_own_rows_of(machine, size, line, rows)?;
+            push_own_rows_of(layout, line, rows)?;
         }
         Ok(())
     }
 }
 
 /// Puts the rows of a line in which bytes of it were stored into a set.
-fn push_own_rows_of(
-    machine: Machine,
-    size: u32,
-    line: &Line,
-    rows: &mut BTreeSet<u32>,
-) -> Result<(), AllocError>
-    requires { IsMachineFor size machine }
+fn push_own_rows_of(layout: Layout, line: &Line, rows: &mut BTreeSet<u32>) -> Result<(), AllocError>
     ensures kept { OnOk result (spec.HasRowsOf rows.old rows.new) }
-    ensures own { OnOk result (spec.HasOwnRows machine size line.now rows.new) }
+    ensures own { OnOk result (spec.HasOwnRows layout.machine layout.size line.now rows.new) }
 {
     if line.marks.bytes == 0 {
         return Ok(());
     }
-    push_five_rows(first_row(machine, size, line.addr), rows)
+    push_five_rows(first_row(layout, line.addr), rows)
 }
 
 /// The row of the first byte that lies in the line at this place.
-fn first_row(machine: Machine, size: u32, line: u32) -> u32
-    requires { IsMachineFor size machine }
-    ensures row { result ≡ spec.first_row machine.apart size machine.line_length line }
+fn first_row(layout: Layout, line: u32) -> u32
+    ensures row { result ≡ spec.first_row layout.machine.apart layout.size layout.machine.line_length line }
     ensures few { result < 2 ^ 31 }
 {
-    match machine.apart {
+    match layout.machine.apart {
         None => line / 16,
         Some(apart) => {
-            if size <= line {
-                first_row_apart(apart, (line - size) / machine.line_length)
+            if layout.size <= line {
+                first_row_apart(apart, (line - layout.size) / layout.machine.line_length)
             } else {
                 line / 16
             }
@@ -153,8 +132,7 @@ fn first_row_apart(apart: Apart, number: u32) -> u32
 /// Puts this row and the four behind it into a set.
 fn push_five_rows(first: u32, rows: &mut BTreeSet<u32>) -> Result<(), AllocError>
     requires { first < 2 ^ 31 }
-    ensures kept { OnOk result (spec.HasRowsOf rows.old rows.new) }
-    ensures five { OnOk result (spec.HasFiveRows first rows.new) }
+    ensures { OnOk result (Adds rows.old rows.new (λ row. spec.is_of_five first row)) }
 {
     for i in 0..5 {
         rows.insert(first + i)?;
@@ -165,22 +143,16 @@ fn push_five_rows(first: u32, rows: &mut BTreeSet<u32>) -> Result<(), AllocError
 /// The lines in the ways of a core's cache, one of this machine.
 ///
 /// `AllocError`: memory ran out.
-fn ways_of(
-    alloc: Global,
-    caches: &CachedBus,
-    machine: Machine,
-    core: u32,
-) -> Result<Vec<Line>, AllocError>
-    requires core { core < (bus caches.now).shape.cores }
-    requires machine { IsMachine machine }
-    requires ways { machine.ways ≤ (bus caches.now).geometry.ways }
-    ensures { IfOk result (λ lines. lines.items ≡ spec.lines_below machine caches.now core (spec.place_count machine)) }
+fn ways_of(alloc: Global, placed: &PlacedCaches, core: u32) -> Result<Vec<Line>, AllocError>
+    requires { core < (bus placed.now.caches.now).shape.cores }
+    ensures { IfOk result (λ lines. lines.items ≡ spec.lines_below placed.now.machine placed.now.caches.now core (spec.place_count placed.now.machine)) }
 {
+    let machine = placed.machine.sizes();
     let mut lines = Vec::new(alloc);
-    for place in 0..place_count(machine) {
+    for place in 0..placed.machine.place_count() {
         let set = place as u32 / machine.ways;
         let way = place % machine.ways as usize;
-        lines.push(*caches.line_in(core, set * machine.line_length, way))?;
+        lines.push(*placed.caches.line_in(core, set * machine.line_length, way))?;
     }
     Ok(lines)
 }

@@ -3,6 +3,7 @@ ghost use Rattle.std.specs.Prelude.{◌≡◌, ◌==◌, ◌/◌, ◌<◌, ◌^�
 ghost use Rattle.std.specs.List.{list_any};
 ghost use Rattle.turn_steps.specs.Laws as spec;
 
+use crate::rows::Row;
 use spec_history::{Entry, What};
 use std::alloc::AllocError;
 use std::collections::BTreeSet;
@@ -41,17 +42,17 @@ fn add_touched(what: What, rows: &mut BTreeSet<u32>) -> Result<(), AllocError>
     ensures { OnOk result (spec.Adds rows.old rows.new (λ row. spec.touches_in row what)) }
 {
     match what {
-        What::Load { addr, .. } | What::Store { addr, .. } => add_near(addr / 16, rows),
+        What::Load { addr, .. } | What::Store { addr, .. } => add_near(Row::of(addr), rows),
         _ => Ok(()),
     }
 }
 
 /// Adds the rows near this one.
-fn add_near(row: u32, rows: &mut BTreeSet<u32>) -> Result<(), AllocError>
-    requires { row < 2 ^ 28 }
+fn add_near(row: Row, rows: &mut BTreeSet<u32>) -> Result<(), AllocError>
     ensures { OnOk result (spec.Adds rows.old rows.new (λ other. spec.is_near row other)) }
 {
-    for near in row.saturating_sub(4)..row + 5 {
+    let number = row.number();
+    for near in number.saturating_sub(4)..number + 5 {
         add_row(near, rows)?;
     }
     Ok(())

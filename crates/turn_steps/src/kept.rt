@@ -10,6 +10,7 @@ ghost use Rattle.turn_steps.specs.Kept as spec;
 ghost use Rattle.turn_steps.specs.Passes.{IsAllShown, IsRestShown, inside};
 
 use crate::kept_row::{KeptRow, push_kept_change};
+use crate::rows::RowCount;
 use std::alloc::{AllocError, Global};
 use std::collections::{BTreeMap, BTreeSet};
 use std::marker::Model;
@@ -59,7 +60,7 @@ impl ShownKept {
             → OnOk result (spec.ShowsKept (store_view store.now) core self.new) }
     {
         store.look();
-        let count = store.size() / 16;
+        let count = RowCount::of(store.size());
         if is_speculative(store.attempt(core)) {
             return self.push_rows(alloc, text, store, core, count, rows);
         }
@@ -86,10 +87,9 @@ impl ShownKept {
         text: &mut Vec<u8>,
         store: &PlainStore,
         core: u32,
-        count: u32,
+        count: RowCount,
         rows: &BTreeSet<u32>,
     ) -> Result<(), AllocError>
-        requires { count ≤ 65536 }
         ensures text { IsRestShown rows.now count (spec.row_at self.old) (kept_of (store_view store.now) core) → OnOk result
             (text.new.items ≡ text.old.items ++ text_below (λ row. spec.kept_change core (kept_of (store_view store.now) core) row (spec.row_at self.old row)) count) }
         ensures shown { IsRestShown rows.now count (spec.row_at self.old) (kept_of (store_view store.now) core)
@@ -101,28 +101,27 @@ impl ShownKept {
         Ok(())
     }
 
-    /// Adds the line of a row, where the core doesn't keep what was shown. A row past the first so many is left out.
+    /// Adds the line of the row of this number, where the core doesn't keep what was shown. A row past the first so many is left out.
     fn push_row(
         &mut self,
         alloc: Global,
         text: &mut Vec<u8>,
         store: &PlainStore,
         core: u32,
-        count: u32,
-        row: u32,
+        count: RowCount,
+        number: u32,
     ) -> Result<(), AllocError>
-        requires { count ≤ 65536 }
         ensures text { OnOk result (text.new.items ≡ text.old.items
-            ++ inside count (λ r. spec.kept_change core (kept_of (store_view store.now) core) r (spec.row_at self.old r)) row) }
-        ensures row { OnOk result (row < count → spec.row_at self.new row ≡ kept_of (store_view store.now) core row) }
-        ensures others { (r : ℕ) → r ≢ row → spec.row_at self.new r ≡ spec.row_at self.old r }
+            ++ inside count (λ r. spec.kept_change core (kept_of (store_view store.now) core) r (spec.row_at self.old r)) number) }
+        ensures row { OnOk result (number < count → spec.row_at self.new number ≡ kept_of (store_view store.now) core number) }
+        ensures others { (r : ℕ) → r ≢ number → spec.row_at self.new r ≡ spec.row_at self.old r }
     {
-        if row >= count {
+        let Some(row) = count.row(number) else {
             return Ok(());
-        }
+        };
         let now = KeptRow::of(store, core, row);
-        push_kept_change(alloc, text, core, row, &self.row(row), &now)?;
-        self.show(row, now)
+        push_kept_change(alloc, text, core, row, &self.row(number), &now)?;
+        self.show(number, now)
     }
 
     /// Adds the lines of the rows that were shown, of all of which the core now keeps nothing.
@@ -131,9 +130,8 @@ impl ShownKept {
         alloc: Global,
         text: &mut Vec<u8>,
         core: u32,
-        count: u32,
+        count: RowCount,
     ) -> Result<(), AllocError>
-        requires { count ≤ 65536 }
         ensures { OnOk result (text.new.items ≡ text.old.items ++ text_below (λ row. spec.kept_change core (λ _. nothing) row (spec.row_at self.now row)) count) }
     {
         for row in self.rows.keys() {
@@ -142,22 +140,28 @@ impl ShownKept {
         Ok(())
     }
 
-    /// Adds the line of a row, of which the core now keeps nothing. A row past the first so many is left out.
+    /// Adds the line of the row of this number, of which the core now keeps nothing. A row past the first so many is left out.
     fn push_end(
         &self,
         alloc: Global,
         text: &mut Vec<u8>,
         core: u32,
-        count: u32,
-        row: u32,
+        count: RowCount,
+        number: u32,
     ) -> Result<(), AllocError>
-        requires { count ≤ 65536 }
-        ensures { OnOk result (text.new.items ≡ text.old.items ++ inside count (λ r. spec.kept_change core (λ _. nothing) r (spec.row_at self.now r)) row) }
+        ensures { OnOk result (text.new.items ≡ text.old.items ++ inside count (λ r. spec.kept_change core (λ _. nothing) r (spec.row_at self.now r)) number) }
     {
-        if row >= count {
+        let Some(row) = count.row(number) else {
             return Ok(());
-        }
-        push_kept_change(alloc, text, core, row, &self.row(row), &KeptRow::nothing())
+        };
+        push_kept_change(
+            alloc,
+            text,
+            core,
+            row,
+            &self.row(number),
+            &KeptRow::nothing(),
+        )
     }
 
     /// Puts the rows of which the core was shown to have stored bytes beside those that are there.

@@ -6,6 +6,7 @@ ghost use Rattle.turn_steps.specs.Rows as spec;
 ghost use Rattle.turn_steps.specs.KeptRow as kept;
 
 use crate::changed::push_changed;
+use crate::rows::Row;
 use std::alloc::{AllocError, Global};
 use trace_text::{push_hex, push_number};
 use violations::PlainStore;
@@ -34,14 +35,13 @@ impl KeptRow {
     }
 
     /// What a core keeps of a row.
-    pub fn of(store: &PlainStore, core: u32, row: u32) -> KeptRow
-        requires { row < 2 ^ 28 }
+    pub fn of(store: &PlainStore, core: u32, row: Row) -> KeptRow
         ensures { result ≡ kept.kept_of (store_view store.now) core row }
     {
         KeptRow {
-            read: guarded_mask(store, core, 16 * row),
-            own: own_mask(store, core, 16 * row),
-            bytes: own_bytes(store, core, 16 * row),
+            read: guarded_mask(store, core, row),
+            own: own_mask(store, core, row),
+            bytes: own_bytes(store, core, row),
         }
     }
 }
@@ -56,38 +56,35 @@ fn with_bit(mask: u16, bit: u32, is_set: bool) -> u16
     if is_set { mask + (1 << bit) } else { mask }
 }
 
-/// Which of the 16 bytes from an address on a core guards.
-fn guarded_mask(store: &PlainStore, core: u32, addr: u32) -> u16
-    requires { addr + 16 ≤ 2 ^ 32 }
-    ensures { result ≡ spec.mask_from ((store_view store.now).guarded core) addr 16 }
+/// Which of the 16 bytes of a row a core guards.
+fn guarded_mask(store: &PlainStore, core: u32, row: Row) -> u16
+    ensures { result ≡ spec.mask_from ((store_view store.now).guarded core) (16 * row) 16 }
 {
     let mut mask = 0;
     for i in 0..16 {
-        mask = with_bit(mask, i, store.guards(core, addr + i));
+        mask = with_bit(mask, i, store.guards(core, row.address(i)));
     }
     mask
 }
 
-/// Which of the 16 bytes from an address on a core has stored.
-fn own_mask(store: &PlainStore, core: u32, addr: u32) -> u16
-    requires { addr + 16 ≤ 2 ^ 32 }
-    ensures { result ≡ spec.mask_from ((store_view store.now).own core) addr 16 }
+/// Which of the 16 bytes of a row a core has stored.
+fn own_mask(store: &PlainStore, core: u32, row: Row) -> u16
+    ensures { result ≡ spec.mask_from ((store_view store.now).own core) (16 * row) 16 }
 {
     let mut mask = 0;
     for i in 0..16 {
-        mask = with_bit(mask, i, store.own_byte(core, addr + i).is_some());
+        mask = with_bit(mask, i, store.own_byte(core, row.address(i)).is_some());
     }
     mask
 }
 
-/// The bytes that a core has stored of the 16 from an address on, and 0 elsewhere.
-fn own_bytes(store: &PlainStore, core: u32, addr: u32) -> [u8; 16]
-    requires { addr + 16 ≤ 2 ^ 32 }
-    ensures { result ≡ spec.bytes_from (spec.own_byte (store_view store.now) core) addr 16 }
+/// The bytes that a core has stored of the 16 of a row, and 0 elsewhere.
+fn own_bytes(store: &PlainStore, core: u32, row: Row) -> [u8; 16]
+    ensures { result ≡ spec.bytes_from (spec.own_byte (store_view store.now) core) (16 * row) 16 }
 {
     let mut bytes = [0; 16];
     for i in 0..16 {
-        bytes[i as usize] = own_or_zero(store, core, addr + i);
+        bytes[i as usize] = own_or_zero(store, core, row.address(i));
     }
     bytes
 }
@@ -103,11 +100,10 @@ pub(crate) fn push_kept_change(
     alloc: Global,
     text: &mut Vec<u8>,
     core: u32,
-    row: u32,
+    row: Row,
     old: &KeptRow,
     now: &KeptRow,
 ) -> Result<(), AllocError>
-    requires { row < 2 ^ 28 }
     ensures { OnOk result (text.new.items ≡ text.old.items ++ changed (kept.kept_row_text core row old.now) (kept.kept_row_text core row now.now)) }
 {
     if is_same(old, now) {
@@ -126,14 +122,13 @@ fn is_same(old: &KeptRow, now: &KeptRow) -> bool
 
 /// The line of what a core keeps of a row.
 #[tactic(auto, unfolding(crate::specs::Rows::kept_text))]
-fn kept_line(alloc: Global, core: u32, row: u32, keeps: &KeptRow) -> Result<Vec<u8>, AllocError>
-    requires { row < 2 ^ 28 }
+fn kept_line(alloc: Global, core: u32, row: Row, keeps: &KeptRow) -> Result<Vec<u8>, AllocError>
     ensures { IfOk result (λ text. text.items ≡ kept.kept_row_text core row keeps.now) }
 {
     let mut text = Vec::from_slice(alloc, b"kept ")?;
     push_number(&mut text, core)?;
     text.extend_from_slice(b" ")?;
-    push_hex(&mut text, &(16 * row).to_be_bytes())?;
+    push_hex(&mut text, &row.address(0).to_be_bytes())?;
     text.extend_from_slice(b" ")?;
     push_hex(&mut text, &keeps.read.to_be_bytes())?;
     text.extend_from_slice(b" ")?;

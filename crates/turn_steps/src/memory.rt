@@ -2,11 +2,12 @@
 ghost use Rattle.std.specs.Prelude.{◌≡◌, ◌++◌, ◌+◌, ◌*◌, ◌<◌, ◌≤◌, ◌^◌, ◌≢◌, ℕ, IfOk, OnOk, length};
 ghost use Rattle.violations.specs.Rule.{IsFresh};
 ghost use Rattle.violations.specs.View.{StoreView};
-ghost use Rattle.turn_steps.specs.Rows.{at_changes, row_count, text_below};
+ghost use Rattle.turn_steps.specs.Rows.{at_changes, row_count};
 ghost use Rattle.turn_steps.specs.Memory as spec;
-ghost use Rattle.turn_steps.specs.Passes.{IsAllShown, IsRestShown, inside};
+ghost use Rattle.turn_steps.specs.Passes.{inside};
 
 use crate::committed_row::{committed_row, push_at_change, row_in};
+use crate::rows::Row;
 use rv32_image::Image;
 use std::alloc::{AllocError, Global};
 use std::collections::BTreeSet;
@@ -60,24 +61,6 @@ impl ShownMemory {
         ensures shown { (old : StoreView) → spec.ShowsMemory old self.old → spec.IsMemoryBut rows.now old (S.view store.now)
             → OnOk result (spec.ShowsMemory (S.view store.now) self.new) }
     {
-        self.push_rows(alloc, text, store, rows)
-    }
-
-    /// Adds the lines of these rows, where their committed bytes aren't as they were shown.
-    fn push_rows<S: EpochStore>(
-        &mut self,
-        alloc: Global,
-        text: &mut Vec<u8>,
-        store: &S,
-        rows: &BTreeSet<u32>,
-    ) -> Result<(), AllocError>
-        requires size { length self.old ≡ row_count (S.view store.now) }
-        ensures long { length self.new ≡ length self.old }
-        ensures text { IsRestShown rows.now (length self.old) (spec.shown_row self.old) (spec.row_of (S.view store.now).committed) → OnOk result
-            (text.new.items ≡ text.old.items ++ text_below (λ row. spec.at_change (S.view store.now).committed row (spec.shown_row self.old row)) (length self.old)) }
-        ensures shown { IsRestShown rows.now (length self.old) (spec.shown_row self.old) (spec.row_of (S.view store.now).committed)
-            → OnOk result (IsAllShown (length self.old) (spec.shown_row self.new) (spec.row_of (S.view store.now).committed)) }
-    {
         for row in rows {
             self.push_row(alloc, text, store, *row)?;
         }
@@ -102,8 +85,9 @@ impl ShownMemory {
         if row as usize >= self.rows.len() {
             return Ok(());
         }
-        let now = committed_row(store, 16 * row);
-        push_at_change(alloc, text, row, &self.rows[row as usize], &now)?;
+        let of = Row::new(row);
+        let now = committed_row(store, of);
+        push_at_change(alloc, text, of, &self.rows[row as usize], &now)?;
         self.rows[row as usize] = now;
         Ok(())
     }

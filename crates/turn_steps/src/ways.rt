@@ -1,26 +1,18 @@
 //! The ways of a cache.
 ghost use Rattle.std.specs.Prelude.{◌≡◌, ◌*◌, ◌++◌, ◌≤◌, true, length, IfOk, OnOk, IsTrue};
-ghost use Rattle.rv32_image.specs.Machine.{IsMachine, is_line_length};
+ghost use Rattle.rv32_image.specs.Machine.{is_line_length};
 ghost use Rattle.cache_lines.specs.Cells.{cell_of};
 ghost use Rattle.cache_lines.specs.Protocol.{copy_of_line};
 ghost use Rattle.turn_steps.specs.Caches.{place_count, standing, standing_at};
 ghost use Rattle.turn_steps.specs.Places as spec;
 
 use crate::changed::push_changed;
+use crate::machine::KnownMachine;
 use crate::names::{loaded_word, state_name};
 use cache_lines::Line;
-use rv32_exec::Machine;
 use spec_states::LONGEST_LINE;
 use std::alloc::{AllocError, Global};
 use trace_text::{push_hex, push_number};
-
-/// How many lines a cache of this machine has.
-pub(crate) fn place_count(machine: Machine) -> usize
-    requires { IsMachine machine }
-    ensures { result ≡ place_count machine }
-{
-    machine.sets as usize * machine.ways as usize
-}
 
 /// Adds a line of text for each way of a core's cache whose text isn't as it was, set by set, and in a set way by way. Before there
 /// were the old lines, of a machine; now there are the new ones.
@@ -29,17 +21,16 @@ pub(crate) fn place_count(machine: Machine) -> usize
 pub fn push_way_changes(
     alloc: Global,
     text: &mut Vec<u8>,
-    machine: Machine,
+    machine: KnownMachine,
     core: u32,
     old: &[Line],
     now: &[Line],
 ) -> Result<(), AllocError>
-    requires machine { IsMachine machine }
     requires old { place_count machine ≤ length old.now }
     requires now { place_count machine ≤ length now.now }
     ensures { OnOk result (text.new.items ≡ text.old.items ++ spec.way_changes machine core (standing_at old.now) (standing_at now.now) (place_count machine)) }
 {
-    for place in 0..place_count(machine) {
+    for place in 0..machine.place_count() {
         push_way_change(
             alloc,
             text,
@@ -57,13 +48,12 @@ pub fn push_way_changes(
 fn push_way_change(
     alloc: Global,
     text: &mut Vec<u8>,
-    machine: Machine,
+    machine: KnownMachine,
     core: u32,
     place: u32,
     old: &Line,
     now: &Line,
 ) -> Result<(), AllocError>
-    requires { IsMachine machine }
     ensures { OnOk result (text.new.items
         ≡ text.old.items ++ spec.changed (spec.way_line machine core place (standing old.now)) (spec.way_line machine core place (standing now.now))) }
 {
@@ -85,18 +75,18 @@ fn is_same(old: &Line, now: &Line) -> bool
 #[tactic(auto, unfolding(crate::specs::Places::way_line))]
 fn way_line(
     alloc: Global,
-    machine: Machine,
+    machine: KnownMachine,
     core: u32,
     place: u32,
     line: &Line,
 ) -> Result<Vec<u8>, AllocError>
-    requires { IsMachine machine }
     ensures { IfOk result (λ text. text.items ≡ spec.way_line machine core place (standing line.now)) }
 {
+    let sizes = machine.sizes();
     let mut text = Vec::from_slice(alloc, b"line ")?;
-    push_place(&mut text, machine.ways, core, place)?;
+    push_place(&mut text, sizes.ways, core, place)?;
     if line.state.is_valid() {
-        push_copy(&mut text, machine.line_length, line)?;
+        push_copy(&mut text, sizes.line_length, line)?;
     } else {
         text.extend_from_slice(b"-")?;
     }

@@ -6,6 +6,6 @@ use Rattle.turn_steps.proofs.bus.push_bus_changes.Given as goal
 -- the cores so far
 abbrev pub invariant-loop-core : goal.invariant-loop-core
 invariant-loop-core l = record {
-  held : AreHeld l.machine l.caches l.core l.now.items;
-  text : (old : CachedView) → AreHeld l.machine old l.cores l.shown → l.text.items ≡ l.initial.text.items ++ held_changes l.machine old l.caches l.core;
+  held : AreHeld l.placed.machine l.placed.caches.now l.core l.now.items;
+  text : (old : CachedView) → AreHeld l.placed.machine old l.cores l.shown → l.text.items ≡ l.initial.text.items ++ held_changes l.placed.machine old l.placed.caches.now l.core;
 }

@@ -4,4 +4,4 @@ use Rattle.turn_steps.proofs.entries.add_near.Given as goal
 
 -- the rows so far
 abbrev pub invariant-loop-near : goal.invariant-loop-near
-invariant-loop-near l = Adds l.initial.rows l.rows (λ other. nat_le (l.row - 4) other && nat_lt other l.near)
+invariant-loop-near l = Adds l.initial.rows l.rows (λ other. nat_le (l.number - 4) other && nat_lt other l.near)

@@ -1,14 +1,14 @@
-use Rattle.std.proofs.Common.{arith}
+use Rattle.std.proofs.Common.{◌*◌, ap, ◌∙◌, arith}
 use Rattle.violations.specs.Plain.{store_view}
 use Rattle.turn_steps.proofs.Reading.{masks_all, masks_more, masks_none}
 use Rattle.turn_steps.proofs.kept_row.guarded_mask.Goals as goal
 
 pub loop-i-init : goal.loop-i-init
-loop-i-init c = masks_none ((store_view c.args.store.now).guarded c.args.core) c.args.addr
+loop-i-init c = masks_none ((store_view c.args.store.now).guarded c.args.core) (16 * c.args.row)
 
 pub loop-i-preserved : goal.loop-i-preserved
-loop-i-preserved c = masks_more ((store_view c.args.store.now).guarded c.args.core) c.args.addr c.loop-i.i c.loop-i.mask c.guards.result c.with_bit-mask.result
-    c.loop-i.invariant c.guards.ensures c.with_bit-mask.ensures.more c.with_bit-mask.ensures.below
+loop-i-preserved c = masks_more ((store_view c.args.store.now).guarded c.args.core) (16 * c.args.row) c.loop-i.i c.loop-i.mask c.guards.result c.with_bit-mask.result
+    c.loop-i.invariant (c.guards.ensures ∙ ap ((store_view c.args.store.now).guarded c.args.core) c.address.ensures) c.with_bit-mask.ensures.more c.with_bit-mask.ensures.below
 
 pub returns : goal.returns
-returns c = masks_all ((store_view c.args.store.now).guarded c.args.core) c.args.addr c.loop-i.i c.loop-i.mask c.loop-i.invariant (omega arith)
+returns c = masks_all ((store_view c.args.store.now).guarded c.args.core) (16 * c.args.row) c.loop-i.i c.loop-i.mask c.loop-i.invariant (omega arith)

@@ -11,14 +11,14 @@ pub returns-clause-fits : goal.returns-clause-fits
 returns-clause-fits c = record {
   machine_is = c.requires.machine_is;
   size_is = c.requires.size_is;
-  whole = are_whole (of_places c.args.shown.now.machine) c.args.self.now c.cores.result c.in_ok-cores.cores.items
+  whole = are_whole (of_places c.args.shown.now.layout.machine) c.args.self.now c.cores.result c.in_ok-cores.cores.items
       (subst (λ (m : Machine). AreHeld m c.args.self.now c.cores.result c.in_ok-cores.cores.items) c.of_places.ensures c.in_ok-cores.ensures.held);
   count = c.in_ok-cores.ensures.held.count_is ∙ c.cores.ensures;
 }
 
 pub returns-clause-text : goal.returns-clause-text
 returns-clause-text c = λ old shows keeps.
-    let own = c.args.shown.now.machine in
+    let own = c.args.shown.now.layout.machine in
     let machine = c.of_places.result in
     let cores = c.cores.result in
     let old_count : (bus old).shape.cores ≡ cores = sym shows.cores_are.count_is ∙ (c.requires.count ∙ sym c.cores.ensures) in

@@ -7,5 +7,5 @@ use Rattle.turn_steps.proofs.caches.ShownCore.push_own_rows.Given as goal
 abbrev pub invariant-loop-line : goal.invariant-loop-line
 invariant-loop-line l = record {
   kept : HasRowsOf l.initial.rows l.rows;
-  own : (place : ℕ) → place < l.line-index → HasOwnRows l.machine l.size (slice_index_or l.self.ways place no_line) l.rows;
+  own : (place : ℕ) → place < l.line-index → HasOwnRows l.layout.machine l.layout.size (slice_index_or l.self.ways place no_line) l.rows;
 }

@@ -4,7 +4,7 @@ use Rattle.std.specs.Map.Iter.{deref}
 use Rattle.turn_steps.specs.Memory.{at_change, row_of, shown_row}
 use Rattle.turn_steps.specs.Passes.{inside}
 use Rattle.turn_steps.proofs.Passes.{passed}
-use Rattle.turn_steps.proofs.memory.ShownMemory.push_rows.Given as goal
+use Rattle.turn_steps.proofs.memory.ShownMemory.push_changes.Given as goal
 
 -- the rows so far
 abbrev pub invariant-loop-row : goal.invariant-loop-row
