@@ -9,3 +9,5 @@ pub mod Running
 pub mod Meeting
 -- How far a schedule has come.
 pub mod Staging
+-- The last stores of bytes, and which dependences are near.
+pub mod Lasting

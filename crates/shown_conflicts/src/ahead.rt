@@ -6,7 +6,7 @@ ghost use Rattle.homefree.specs.BookView.{IsOfSameLoop};
 ghost use Rattle.homefree.specs.Room.{most_room};
 ghost use Rattle.dependences.specs.Conflict.{IsInOrder, first_beside};
 ghost use Rattle.shown_conflicts.specs.Drives.{IsDrive, IsHalted};
-ghost use Rattle.shown_conflicts.specs.Shown.{Comes, IsConflictAt};
+ghost use Rattle.shown_conflicts.specs.Shown.{ComesTo, IsConflictAt};
 ghost use Rattle.shown_conflicts.specs.Windows as spec;
 
 use crate::drive::{Drive, Halt, run, turn};
@@ -15,24 +15,15 @@ use rv32_exec::{Image, NoMemory};
 use std::alloc::Global;
 use violations::{MAX_CORES, PlainStore};
 
-/// What a schedule has come to.
-#[derive(Clone, Copy)]
-pub enum Ending {
-    /// Its last turn has violated an epoch.
-    Violated,
-    /// Its history has no room for a turn.
-    HistoryFull,
-    /// It has violated none.
-    Unviolated,
-}
-
-/// A history over a plain store that a schedule has made.
+/// What schedules over a plain store have come to.
 #[derive(Drop)]
-pub struct Ahead {
-    /// The book with the history.
-    pub book: Book<PlainStore>,
-    /// What the schedule has come to.
-    pub ending: Ending,
+pub enum Ahead {
+    /// One has made this history, and its last turn has violated an epoch.
+    Violated(Book<PlainStore>),
+    /// None has violated an epoch, and this history has no room for a turn.
+    HistoryFull(Book<PlainStore>),
+    /// None has violated an epoch, and each has had room.
+    Unviolated,
 }
 
 /// Takes turns over a fresh plain store up to the first violation. The epochs before the window of this later one commit in order, on
@@ -51,22 +42,19 @@ pub fn run_ahead(
     requires cores { IsCoreCount image.now cores }
     requires least { 16 ≤ room }
     requires most { room ≤ most_room }
-    ensures image { IfOk result (λ ahead. ahead.book.image ≡ image.now) }
-    ensures cores { IfOk result (λ ahead. ahead.book.cores ≡ cores) }
-    ensures room { IfOk result (λ ahead. ahead.book.room ≡ room) }
-    ensures comes { IfOk result (λ ahead. Comes image.now cores later ahead.book ahead.ending) }
+    ensures { IfOk result (ComesTo (record { image = image.now; cores = cores; room = room }) (IsConflictAt image.now cores later)) }
 {
     let (book, shares) = Book::new(alloc, image, cores, room)?;
     let held = [None; MAX_CORES];
     let mut drive = Drive { book, shares, held };
-    let ending = match take_turns(&mut drive, image, cores, later) {
-        Ok(()) => Ending::Unviolated,
-        Err(Halt::Violated) => Ending::Violated,
-        Err(Halt::HistoryFull) => Ending::HistoryFull,
-        Err(Halt::NoMemory) => return Err(NoMemory),
-    };
+    let taken = take_turns(&mut drive, image, cores, later);
     let book = drive.book;
-    Ok(Ahead { book, ending })
+    match taken {
+        Ok(()) => Ok(Ahead::Unviolated),
+        Err(Halt::Violated) => Ok(Ahead::Violated(book)),
+        Err(Halt::HistoryFull) => Ok(Ahead::HistoryFull(book)),
+        Err(Halt::NoMemory) => Err(NoMemory),
+    }
 }
 
 /// The turns of the schedule. Where they violate no epoch, the later one conflicts with none.

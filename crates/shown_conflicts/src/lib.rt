@@ -3,5 +3,7 @@
 
 mod ahead;
 mod drive;
+mod shown;
 
-pub use ahead::{Ahead, Ending, run_ahead};
+pub use ahead::{Ahead, run_ahead};
+pub use shown::show_conflict;
