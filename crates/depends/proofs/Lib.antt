@@ -1,3 +1,5 @@
 pub mod Answering
 mod Joining
 pub mod Known
+-- A history that has a violation has an explanation.
+pub mod Violations

@@ -5,9 +5,12 @@ pub mod Text
 pub mod Never
 pub mod Shown
 pub mod Line
+pub mod Plain
 pub mod Lines
 pub mod Answers
 -- What the program answers the words of a command line.
 pub mod Work
 -- What the code keeps: whose turns schedules have.
 pub mod Ahead
+-- What the run in order shows.
+pub mod Known

@@ -3,8 +3,6 @@
 use Rattle.std.specs.Prelude.{◌≡◌, ℕ, ◌++◌, List, [], ◌∷◌, Option, Some, None}
 use Rattle.std.specs.List.{flat_map}
 use Rattle.rv32_image.specs.Image.{LoadedImage}
-use Rattle.violations.specs.View.{never_waits}
-use Rattle.violations.specs.Plain as plain
 use Rattle.spec_bus.specs.Cached as caches
 use Rattle.spec_bus.specs.Laws as cache
 use Rattle.dependences.specs.declared.flow.Dependence.{Dependence}
@@ -14,10 +12,12 @@ use Rattle.dependences.specs.Lengths.{AreLengths}
 use Rattle.trace_commands.specs.declared.store.Store.{Store}
 use Rattle.trace_commands.specs.declared.store.Store.TheVariants.{Caches, Plain}
 use Rattle.trace_commands.specs.Stores.{store_named}
-use Rattle.depends.specs.declared.least.Grain.TheVariants.{Lines, Bytes}
+use Rattle.depends.specs.declared.least.Grain.TheVariants.{Lines}
 use Rattle.depends.specs.declared.line.Line.{Line}
 use Rattle.depends.specs.Line.{IsLine, line_text}
-use Rattle.depends.specs.Never.{IsKnown}
+use Rattle.depends.specs.declared.line.Known.{Known}
+use Rattle.depends.specs.Known.{IsKnown}
+use Rattle.depends.specs.Plain.{IsPlainLine}
 use Rattle.depends.specs.Rows.{AreRowsOf}
 use Rattle.all_schedules.specs.Stores.{on_store}
 use Rattle.depends.specs.Text.{row_text}
@@ -31,12 +31,12 @@ pub record AreRowLines (found : List Dependence) (lengths : List ℕ) (text : Li
 -- what is so of a store, of the loop on its machine
 abbrev pub IsLineOf : LoadedImage → Store → ℕ → ℕ → Line → Type 0
 IsLineOf image (Caches asked) cores room line = IsLine cache.Starts cache.Makes caches.store_view caches.waits image Lines cores room line
-IsLineOf image Plain cores room line = IsLine plain.Starts plain.Makes plain.store_view (λ _. never_waits) image Bytes cores room line
+IsLineOf image Plain cores room line = IsPlainLine image cores room line
 
--- what the run in order shows is so of the loop on the machine of this store
-abbrev pub IsKnownOn : LoadedImage → Store → ℕ → Option ℕ → Type 0
-IsKnownOn image (Caches asked) ran nearest = IsKnown image Lines ran nearest
-IsKnownOn image Plain ran nearest = IsKnown image Bytes ran nearest
+-- what the run in order shows is so of the loop on the machine of this store, where that is taken
+abbrev pub IsKnownOn : LoadedImage → Store → Known → Type 0
+IsKnownOn image (Caches asked) known = Unit {0}
+IsKnownOn image Plain known = IsKnown image known
 
 -- it is told of the store that this word names
 abbrev pub AddStore : LoadedImage → ℕ → ℕ → List ℕ → Option Store → List ℕ → List ℕ → Type 0

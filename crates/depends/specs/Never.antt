@@ -4,8 +4,6 @@ use Rattle.std.specs.Prelude.{◌≡◌, ◌⊎◌, ℕ, ◌<◌, ◌≤◌, Opt
 use Rattle.rv32_image.specs.Image.{LoadedImage}
 use Rattle.dependences.specs.Conflict.{ConflictInOrder, LineConflictInOrder, Overflow}
 use Rattle.dependences.specs.Shared.{SharedOverflowInOrder}
-use Rattle.dependences.specs.Kept.{AreAll}
-use Rattle.dependences.specs.Nearest.{IsNearest}
 use Rattle.dependences.specs.Laws.{NeverOverBytes, NeverOverLines}
 use Rattle.shared_lines.specs.NeverOverBus.{NeverOverBus}
 use Rattle.depends.specs.declared.least.Found.{Found}
@@ -42,9 +40,3 @@ abbrev pub IsLeast : LoadedImage → Grain → ℕ → Option Found → Type 0
 IsLeast image grain most (Some found) = (2 ≤ found.cores) × (found.cores ≤ most) × Conflicts image grain found.cores
     × ((fewer : ℕ) → fewer < found.cores → NeverOn image grain fewer)
 IsLeast image grain most None = NeverRollsBack image grain most
-
--- what the run in order shows is so of the loop on this machine: so many epochs run in order, and they depend on each other so near.
--- Over lines none of it is taken
-abbrev pub IsKnown : LoadedImage → Grain → ℕ → Option ℕ → Type 0
-IsKnown image Lines ran nearest = Unit {0}
-IsKnown image Bytes ran nearest = AreAll image ran × IsNearest image nearest

@@ -28,26 +28,26 @@ pub struct Found {
     pub later: Option<u32>,
 }
 
-/// Two epochs that conflict over a store of this grain on the fewest cores, up to these, which are at most 16. None: on none of them any do, and no
+/// Two epochs that conflict over bytes on the fewest cores, up to these, which are at most 16. None: on none of them any do, and no
 /// schedule has a violation. So many epochs run in order, and the nearest that depend on each other over bytes are so far apart.
 ///
 /// `AllocError`: memory ran out.
-pub fn least_conflict(
+pub fn least_over_bytes(
     alloc: Global,
     image: &Image,
-    grain: Grain,
     cores: u32,
     ran: u32,
     nearest: Option<u32>,
 ) -> Result<Option<Found>, AllocError>
     requires few { cores ≤ 16 }
-    requires known { spec.IsKnown image.now grain ran nearest }
-    ensures { IfOk result (spec.IsLeast image.now grain cores) }
+    requires all { AreAll image.now ran }
+    requires nearest { IsNearest image.now nearest }
+    ensures { IfOk result (spec.IsLeast image.now Grain.Bytes cores) }
 {
-    let all = ran == image.epochs();
-    match grain {
-        Grain::Bytes if all => Ok(least_near(image, cores, nearest)),
-        _ => least_by_halves(alloc, image, grain, cores),
+    if ran == image.epochs() {
+        Ok(least_near(image, cores, nearest))
+    } else {
+        least_by_halves(alloc, image, Grain::Bytes, cores)
     }
 }
 
@@ -64,8 +64,10 @@ fn least_near(image: &Image, cores: u32, nearest: Option<u32>) -> Option<Found>
     }
 }
 
-/// The same by a search on more and fewer cores.
-fn least_by_halves(
+/// Two epochs that conflict over a store of this grain on the fewest cores, by a search on more and fewer cores.
+///
+/// `AllocError`: memory ran out.
+pub fn least_by_halves(
     alloc: Global,
     image: &Image,
     grain: Grain,

@@ -1,17 +1,17 @@
 //! The line of a store: whether a schedule of so many cores can violate an epoch over it.
 ghost use Rattle.std.specs.Prelude.{◌≡◌, ◌++◌, IfOk, OnOk};
 ghost use Rattle.depends.specs.Line as spec;
-ghost use Rattle.depends.specs.Never.{IsKnown};
+ghost use Rattle.spec_bus.specs.Cached as caches;
+ghost use Rattle.spec_bus.specs.Laws as cache;
 
 use crate::ahead::run_ahead;
-use crate::least::{Found, Grain, least_conflict};
+use crate::least::{Grain, least_by_halves};
 use crate::shown::{Met, Shown, show};
 use crate::text::{push_address, push_named, push_word};
 use all_schedules::{LoopOn, push_turns};
 use dependences::Dependence;
-use rv32_exec::Image;
+use spec_bus::CachedBus;
 use std::alloc::{AllocError, Global};
-use violations::EpochStore;
 
 /// What is told of a store.
 #[derive(Drop)]
@@ -24,7 +24,7 @@ pub enum Line {
         turns: Vec<u32>,
         shown: Shown,
     },
-    /// Epochs conflict on so many cores, and the schedule that was tried makes no violation; on fewer none has one.
+    /// Epochs conflict on so many cores, and the schedules that were tried make no violation; on fewer none has one.
     Open {
         cores: u32,
     },
@@ -41,45 +41,33 @@ pub struct Known<'a> {
     pub nearest: Option<u32>,
 }
 
-/// What is told of a store that watches so, and up to so many cores.
+/// What is told of the caches on a bus, and up to so many cores.
 ///
 /// `AllocError`: memory ran out.
-pub fn line_over<S: EpochStore>(
-    alloc: Global,
-    on: &LoopOn<'_>,
-    grain: Grain,
-    known: Known<'_>,
-) -> Result<Line, AllocError>
-    requires known { IsKnown on.now.image.now grain known.epochs known.nearest }
-    ensures { IfOk result (spec.IsLine S.starts S.makes S.view S.waits on.now.image.now grain on.now.cores on.now.room) }
+pub fn line_over_caches(alloc: Global, on: &LoopOn<'_>) -> Result<Line, AllocError>
+    ensures { IfOk result (spec.IsLine cache.Starts cache.Makes caches.store_view caches.waits on.now.image.now Grain.Lines on.now.cores on.now.room) }
 {
     let cores = on.cores;
-    match least_conflict(alloc, on.image, grain, cores, known.epochs, known.nearest)? {
+    match least_by_halves(alloc, on.image, Grain::Lines, cores)? {
         Some(least) => {
-            let (from, to) = laters(on.image, known, least);
             let on = LoopOn {
                 image: on.image,
                 cores: least.cores,
                 room: on.room,
             };
-            line_from::<S>(alloc, &on, from, to)
+            line_from(alloc, &on, least.later)
         }
         None => Ok(Line::Never),
     }
 }
 
-/// The line from so many cores on, where one of these epochs, from the first up to the one before the last, is tried as the later one.
-fn line_from<S: EpochStore>(
-    alloc: Global,
-    on: &LoopOn<'_>,
-    from: u32,
-    to: u32,
-) -> Result<Line, AllocError>
-    ensures { IfOk result (spec.IsFrom S.starts S.makes S.view S.waits on.now.image.now on.now.cores on.now.room) }
+/// The line from so many cores on, where this epoch is tried as the later one of a conflict.
+fn line_from(alloc: Global, on: &LoopOn<'_>, later: Option<u32>) -> Result<Line, AllocError>
+    ensures { IfOk result (spec.IsFrom cache.Starts cache.Makes caches.store_view caches.waits on.now.image.now on.now.cores on.now.room) }
 {
-    for later in from..to {
-        let turns = run_ahead::<S>(alloc, on, later)?;
-        let shown = show::<S>(alloc, on, turns.as_slice())?;
+    if let Some(later) = later {
+        let turns = run_ahead::<CachedBus>(alloc, on, later)?;
+        let shown = show::<CachedBus>(alloc, on, turns.as_slice())?;
         if let Some(shown) = shown {
             return Ok(Line::From {
                 cores: on.cores,
@@ -89,28 +77,6 @@ fn line_from<S: EpochStore>(
         }
     }
     Ok(Line::Open { cores: on.cores })
-}
-
-/// The epochs that may be the later one of a conflict, from the first up to the one before the last.
-fn laters(image: &Image, known: Known<'_>, least: Found) -> (u32, u32) {
-    let one = least.later.or_else(|| first_near(known.found, least.cores));
-    match one {
-        Some(later) => (later, later.saturating_add(1)),
-        None => {
-            let past = known.epochs.saturating_add(least.cores);
-            (known.epochs, past.min(image.epochs()))
-        }
-    }
-}
-
-/// The later epoch of the first dependence that is nearer than so many cores.
-fn first_near(found: &[Dependence], cores: u32) -> Option<u32> {
-    for one in found {
-        if one.later.saturating_sub(one.earlier) < cores {
-            return Some(one.later);
-        }
-    }
-    None
 }
 
 /// Adds what is told of the store that this word names, on up to so many cores.

@@ -2,22 +2,19 @@
 ghost use Rattle.std.specs.Prelude.{◌≡◌, IfOk, OnOk, map};
 ghost use Rattle.trace_commands.specs.Stores.{store_named};
 ghost use Rattle.all_schedules.specs.Stores.{RunsOn, RunsOnAll};
-ghost use Rattle.dependences.specs.Kept.{AreAll};
-ghost use Rattle.dependences.specs.Nearest.{IsNearest};
+ghost use Rattle.depends.specs.Known.{IsKnown};
 ghost use Rattle.depends.specs.Lines as spec;
 
-use crate::least::Grain;
-use crate::line::{Known, Line, line_over, push_line};
+use crate::line::{Known, Line, line_over_caches, push_line};
+use crate::plain::line_over_plain;
 use crate::rows::rows_of;
 use crate::text::push_rows;
 use all_schedules::{CoreCount, LoopOn, Room, store_on};
 use dependences::{Dependence, shown_in_order};
 use rv32_exec::Image;
-use spec_bus::CachedBus;
 use std::alloc::{AllocError, Global};
 use std::convert::AsStr;
 use trace_commands::Store;
-use violations::PlainStore;
 
 /// The lines of the dependences, and then those of each store that these words name, whose machine can run the image on so many cores.
 ///
@@ -66,8 +63,7 @@ fn push_stores<S: AsStr>(
     known: Known<'_>,
 ) -> Result<(), AllocError>
     requires stores { RunsOnAll image.now cores (map S.text words.now) }
-    requires all { AreAll image.now known.epochs }
-    requires nearest { IsNearest image.now known.nearest }
+    requires known { IsKnown image.now known }
     ensures { OnOk result (spec.AddStores image.now cores room (map S.text words.now) text.old.items text.new.items) }
 {
     for word in words {
@@ -87,8 +83,7 @@ fn push_store(
     known: Known<'_>,
 ) -> Result<(), AllocError>
     requires store { RunsOn image.now cores (store_named word.now) }
-    requires all { AreAll image.now known.epochs }
-    requires nearest { IsNearest image.now known.nearest }
+    requires known { IsKnown image.now known }
     ensures { OnOk result (spec.AddStore image.now cores room word.now (store_named word.now) text.old.items text.new.items) }
 {
     let (store, image) = store_on(alloc, image, cores, word)?;
@@ -108,11 +103,11 @@ fn line_of(
     store: Store,
     known: Known<'_>,
 ) -> Result<Line, AllocError>
-    requires known { spec.IsKnownOn on.now.image.now store known.epochs known.nearest }
+    requires known { spec.IsKnownOn on.now.image.now store known }
     ensures { IfOk result (spec.IsLineOf on.now.image.now store on.now.cores on.now.room) }
 {
     match store {
-        Store::Caches(_) => line_over::<CachedBus>(alloc, on, Grain::Lines, known),
-        Store::Plain => line_over::<PlainStore>(alloc, on, Grain::Bytes, known),
+        Store::Caches(_) => line_over_caches(alloc, on),
+        Store::Plain => line_over_plain(alloc, on, known),
     }
 }

@@ -13,6 +13,7 @@ mod answer;
 mod least;
 mod line;
 mod lines;
+mod plain;
 mod rows;
 mod shown;
 mod text;

@@ -1,7 +1,8 @@
 //! A violation that a schedule makes.
-ghost use Rattle.std.specs.Prelude.{◌≡◌, ◌<◌, All, IfOk, IfSome};
+ghost use Rattle.std.specs.Prelude.{◌≡◌, ◌<◌, All, IfOk, IfSome, IsSome};
 ghost use Rattle.all_schedules.specs.Made.{the_loop};
 ghost use Rattle.conflicts.specs.Explained.{IsExplained};
+ghost use Rattle.shown_conflicts.specs.Violation.{HasViolation};
 ghost use Rattle.depends.specs.Shown as spec;
 
 use all_schedules::{LoopOn, drive_schedule};
@@ -54,14 +55,17 @@ pub fn show<S: EpochStore>(
     }
 }
 
-/// The first violation of a history.
-fn first_of(
+/// The first violation of a history, if it has one.
+///
+/// `AllocError`: memory ran out.
+pub fn first_of(
     alloc: Global,
     image: &Image,
     cores: u32,
     history: &[Entry],
 ) -> Result<Option<Shown>, AllocError>
-    ensures { IfOk result (λ shown. IfSome shown (spec.IsOf image.now cores history.now)) }
+    ensures is { IfOk result (λ shown. IfSome shown (spec.IsOf image.now cores history.now)) }
+    ensures some { HasViolation history.now → IfOk result IsSome }
 {
     let Ok(explanations) = explain(alloc, image, cores, history) else {
         return Err(AllocError);

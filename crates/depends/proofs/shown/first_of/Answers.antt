@@ -1,13 +1,14 @@
-use Rattle.std.proofs.Common.{◌≡◌, List, Some, slice_get, ◌∙◌, ap, subst}
+use Rattle.std.proofs.Common.{◌≡◌, List, Some, None, slice_get, ◌∙◌, ap, subst}
 use Rattle.std.proofs.lemmas.Option.{get_or_from_slice_get, slice_get_within}
 use Rattle.std.proofs.lemmas.List.Elements.{All-get_or}
 use Rattle.conflicts.specs.declared.explanation.Explanation.{Explanation}
 use Rattle.conflicts.specs.Explained.{IsExplained}
-use Rattle.depends.specs.Shown.{shown_by}
+use Rattle.depends.specs.Shown.{IsFirst, shown_by}
+use Rattle.depends.proofs.Violations.{none_first}
 use Rattle.depends.proofs.shown.first_of.Goals as goal
 
-pub returns-in-Some : goal.returns-in-Some
-returns-in-Some c =
+pub returns-in-Some-clause-is : goal.returns-in-Some-clause-is
+returns-in-Some-clause-is c =
     let e = c.in-Some.explanation in
     let all = c.in-Ok.explanations.items in
     let there : slice_get all 0 ≡ Some e =
@@ -18,3 +19,8 @@ returns-in-Some c =
           (All-get_or (IsExplained c.args.image.now c.args.cores c.args.history.now) all 0 e (slice_get_within all 0 e there) c.in-Ok.ensures.explained);
       says = c.shown_by.ensures ∙ ap (λ s. shown_by s e) (c.as_slice-in-Some.ensures.value ∙ c.in-Ok-sites.ensures.each);
     }
+
+pub returns-clause-some : goal.returns-clause-some
+returns-clause-some c = λ v.
+    absurd (none_first c.args.history.now c.in-Ok.explanations.items c.in-Ok.ensures.each_once v
+    (subst (λ (xs : List Explanation). IsFirst xs None) c.as_slice.ensures.value c.in-None.ensures))

@@ -1,0 +1,81 @@
+//! The line of a plain store: where epochs conflict, a schedule shows it.
+ghost use Rattle.std.specs.Prelude.{◌≡◌, IfOk};
+ghost use Rattle.homefree.specs.LockView.{loop_of};
+ghost use Rattle.all_schedules.specs.Made.{the_loop};
+ghost use Rattle.dependences.specs.Conflict.{ConflictInOrder};
+ghost use Rattle.shown_conflicts.specs.Violation.{HasViolation};
+ghost use Rattle.depends.specs.Known.{IsKnown};
+ghost use Rattle.depends.specs.Plain as spec;
+
+use crate::least::least_over_bytes;
+use crate::line::{Known, Line};
+use crate::shown::first_of;
+use all_schedules::{LoopOn, trace_is_made_again, turns_of};
+use homefree::Book;
+use shown_conflicts::{Ahead, show_conflict};
+use std::alloc::{AllocError, Global};
+use violations::PlainStore;
+
+/// What is told of the plain store, and up to so many cores.
+///
+/// `AllocError`: memory ran out.
+pub fn line_over_plain(alloc: Global, on: &LoopOn<'_>, known: Known<'_>) -> Result<Line, AllocError>
+    requires { IsKnown on.now.image.now known }
+    ensures { IfOk result (spec.IsPlainLine on.now.image.now on.now.cores on.now.room) }
+{
+    let cores = on.cores;
+    let epochs = known.epochs;
+    match least_over_bytes(alloc, on.image, cores, epochs, known.nearest)? {
+        Some(least) => {
+            let on = LoopOn {
+                image: on.image,
+                cores: least.cores,
+                room: on.room,
+            };
+            line_from_plain(alloc, &on, known)
+        }
+        None => Ok(Line::Never),
+    }
+}
+
+/// The line from so many cores on, on which epochs conflict.
+fn line_from_plain(alloc: Global, on: &LoopOn<'_>, known: Known<'_>) -> Result<Line, AllocError>
+    requires known { IsKnown on.now.image.now known }
+    requires conflict { ConflictInOrder on.now.image.now on.now.cores }
+    ensures { IfOk result (spec.IsPlainFrom on.now.image.now on.now.cores on.now.room) }
+{
+    let (cores, room) = (on.cores, on.room.entries());
+    let epochs = known.epochs;
+    match show_conflict(alloc, on.image, cores, room, known.found, epochs) {
+        Ok(Ahead::Violated(book)) => line_of_violation(alloc, on, &book),
+        Ok(Ahead::HistoryFull(book)) => {
+            trace_is_made_again(&book);
+            Ok(Line::Open { cores })
+        }
+        Ok(Ahead::Unviolated) => Ok(Line::Open { cores }),
+        Err(_) => Err(AllocError),
+    }
+}
+
+/// The line of a history that has a violation.
+fn line_of_violation(
+    alloc: Global,
+    on: &LoopOn<'_>,
+    book: &Book<PlainStore>,
+) -> Result<Line, AllocError>
+    requires same { loop_of book.now ≡ the_loop on.now }
+    requires violation { HasViolation book.now.history }
+    ensures { IfOk result (spec.IsPlainFrom on.now.image.now on.now.cores on.now.room) }
+{
+    trace_is_made_again(book);
+    let cores = on.cores;
+    let entries = book.history();
+    let first = first_of(alloc, on.image, cores, entries)?;
+    let turns = turns_of(alloc, cores, entries)?;
+    let shown = first.unwrap();
+    Ok(Line::From {
+        cores,
+        turns,
+        shown,
+    })
+}
