@@ -2,6 +2,7 @@
 use Rattle.std.proofs.Common.{◌≡◌, ◌⊎◌, ℕ, zero, suc, ◌+◌, ◌-◌, ◌<◌, ◌≤◌, ◌^◌, List, [], ◌∷◌, ◌++◌, Bool, true, false, if◌then◌else◌, length, get_or, set, take, replicate, slice_index, is_some, Option, Some, None, refl, sym, ap, subst, ◌∙◌, inl, inr, arith, length-append, length-set, append_assoc, get_or-set_same, get_or-set_other}
 use Rattle.std.proofs.lemmas.Bool.{cases_eq, cases_lt}
 use Rattle.std.proofs.lemmas.List.{get_or_append_left, get_or_default, get_or_past, get_or_push, get_or_read, length-replicate, length_push, replicate-append-replicate, take_all}
+use Rattle.std.proofs.lemmas.Option.{none-some}
 use Rattle.memory_bytes.specs.Shadow.{byte_in, noted, padded, Covers, IsShadow}
 
 -- one more address without a byte
@@ -262,9 +263,6 @@ shadow_longer cells cells' size size' capacity capacity' touched touched' same n
       covers = covers_longer cells size size' touched was.within (omega (arith, longer)) small was.covers;
     })
 
-none_some : (cell : Option ℕ) (byte : ℕ) → cell ≡ None → cell ≡ Some byte → ⊥
-none_some cell byte none some = absurd (grind (arith, none, some))
-
 -- nothing is left
 pub shadow_empty : (cells cells' : List (Option ℕ)) (size capacity capacity' : ℕ) (touched touched' : List ℕ) → length cells' ≡ length cells → ((a : ℕ) → byte_in cells' a ≡ None)
     → capacity' ≡ capacity → touched' ≡ [] → IsShadow cells size capacity touched → IsShadow cells' size capacity' touched'
@@ -275,7 +273,7 @@ shadow_empty cells cells' size capacity capacity' touched touched' long none kep
       covers = record {
         small = omega (arith, was.covers.small, length_is cells size was.within, length_is cells' size within);
         within = λ place below. absurd (omega (arith, below));
-        each = λ a byte some. absurd (none_some (byte_in cells' a) byte (none a) (sym (byte_is cells' (size - length cells') a) ∙ some));
+        each = λ a byte some. absurd (none-some byte (sym (none a) ∙ (sym (byte_is cells' (size - length cells') a) ∙ some)));
         held = λ place below. absurd (omega (arith, below));
         once = λ first second first_in second_in same. absurd (omega (arith, first_in));
       };
