@@ -132,6 +132,13 @@ loads_same v w v' w' by address width p one other =
           (other_of v w v' w' by one.hurt other.hurt p.settled p.settled' one.loads.others other.loads.others (none_agree one.hurt other.hurt one.nobody other.nobody) p.same committed);
     }
 
+over_same : (m : ℕ → Option ℕ) (f g : ℕ → ℕ) (a : ℕ) → g a ≡ f a → over m g a ≡ over m f a
+over_same m f g a e = elim_at (m a)
+  where
+    elim_at : (o : Option ℕ) → over (λ b. o) g a ≡ over (λ b. o) f a
+    elim_at None = e
+    elim_at (Some byte) = refl
+
 stores_same : (v w v' w' : StoreView) (by address width value : ℕ) → Pair v w v' w' → MakesStore v w by address width value → MakesStore v' w' by address width value → IsSameView w w'
 stores_same v w v' w' by address width value p one other =
     let both = p.same.cores by in
@@ -148,13 +155,6 @@ stores_same v w v' w' by address width value p one other =
           })
           (other_of v w v' w' by one.hurt other.hurt p.settled p.settled' one.stores.others other.stores.others (none_agree one.hurt other.hurt one.nobody other.nobody) p.same committed);
     }
-  where
-    over_same : (m : ℕ → Option ℕ) (f g : ℕ → ℕ) (a : ℕ) → g a ≡ f a → over m g a ≡ over m f a
-    over_same m f g a e = elim_at (m a)
-      where
-        elim_at : (o : Option ℕ) → over (λ b. o) g a ≡ over (λ b. o) f a
-        elim_at None = e
-        elim_at (Some byte) = refl
 
 publishes_same : (v w v' w' : StoreView) (by : ℕ) → Pair v w v' w' → MakesPublish v w by → MakesPublish v' w' by → IsSameView w w'
 publishes_same v w v' w' by p one other =
@@ -211,13 +211,6 @@ stores_straight_same v w v' w' by address width value p one other =
           (other_of v w v' w' by one.hurt other.hurt p.settled p.settled' one.stores.others other.stores.others agree p.same committed);
     }
   where
-    over_same : (m : ℕ → Option ℕ) (f g : ℕ → ℕ) (a : ℕ) → g a ≡ f a → over m g a ≡ over m f a
-    over_same m f g a e = elim_at (m a)
-      where
-        elim_at : (o : Option ℕ) → over (λ b. o) g a ≡ over (λ b. o) f a
-        elim_at None = e
-        elim_at (Some byte) = refl
-
     met : (u u' : StoreView) (hurt hurt' : ℕ → Bool) → ViolatesReaders by (is_accessed address width) hurt u → ViolatesReaders by (is_accessed address width) hurt' u'
         → (k : ℕ) → IsSameCore u u' k → hurt k ≡ true → hurt' k ≡ true
     met u u' hurt hurt' x y k same e =

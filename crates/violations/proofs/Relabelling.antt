@@ -1,5 +1,6 @@
 -- A store of places that keeps the store rule keeps it as it is seen by addresses.
-use Rattle.std.proofs.Common.{◌≡◌, ◌≢◌, ℕ, zero, suc, ◌+◌, ◌-◌, ◌*◌, ◌%◌, ◌<◌, ◌≤◌, ◌^◌, ◌==◌, ◌&&◌, ◌||◌, nat_le, nat_lt, Bool, true, false, cond, ◌⊎◌, inl, inr, List, length, All, Option, Some, None, unwrap_or, true≢false, refl, sym, ap, subst, ◌∙◌, arith}
+use Rattle.std.proofs.Common.{◌≡◌, ◌≢◌, ℕ, zero, suc, ◌+◌, ◌-◌, ◌*◌, ◌%◌, ◌<◌, ◌≤◌, ◌^◌, ◌==◌, ◌&&◌, ◌||◌, nat_le, nat_lt, Bool, true, false, cond, ◌⊎◌, inl, inr, List, length, All, Option, Some, None, unwrap_or, true≢false, refl, sym, ap, subst, ◌∙◌, arith, add-zero}
+use Rattle.std.proofs.lemmas.Bool.{ltb-false, ltb-true}
 use Rattle.std.proofs.lemmas.Bool.Decides.{nat_tests}
 use Rattle.std.proofs.lemmas.List.Elements.{All-weaker}
 use Rattle.memory_bytes.specs.Bytes.{IsWidth, byte_of, number_at}
@@ -14,14 +15,11 @@ pub number-shifted : (f g : ℕ → ℕ) (a b width : ℕ) → ((i : ℕ) → i 
 unfolding number_at
 number-shifted f g a b zero same = refl
 number-shifted f g a b (suc n) same =
-    let first : f a ≡ g b = ap f (none a) ∙ same 0 (omega arith) ∙ ap g (sym (none b)) in
+    let first : f a ≡ g b = ap f (sym (add-zero a)) ∙ same 0 (omega arith) ∙ ap g (add-zero b) in
     let rest : number_at f (a + 1) n ≡ number_at g (b + 1) n =
     number-shifted f g (a + 1) (b + 1) n (λ i lt. ap f (next a i) ∙ same (i + 1) (omega arith) ∙ ap g (sym (next b i))) in
     rw (first, rest) refl
   where
-    none : (a : ℕ) → a ≡ a + 0
-    none a = omega arith
-
     next : (a i : ℕ) → a + 1 + i ≡ a + (i + 1)
     next a i = omega arith
 
@@ -29,12 +27,6 @@ both_so : (b c : Bool) → (b ≡ true → c ≡ true) → (c ≡ true → b ≡
 both_so true c there back = sym (there refl)
 both_so false true there back = back refl
 both_so false false there back = refl
-
-below : (a size : ℕ) → nat_lt a size ≡ true → a < size
-below a size e = grind (arith, nat_tests)
-
-not_below : (a size : ℕ) → nat_lt a size ≡ false → size ≤ a
-not_below a size e = grind (arith, nat_tests)
 
 accessed : (address width i : ℕ) → i < width → is_accessed address width (address + i) ≡ true
 accessed address width i lt = grind (arith, nat_tests)
@@ -130,9 +122,9 @@ module _ (place : ℕ → ℕ) (shape : Shape) (v : StoreView) (h : IsRelabellin
       }
     where
       pick : (b : Bool) → (found : (a : ℕ) × (place a ≡ o.at)) → nat_lt found.0 shape.size ≡ b → o.at < v.shape.size → found.0 < shape.size
-      pick true found e lt = below found.0 shape.size e
+      pick true found e lt = ltb-true found.0 shape.size e
       pick false found e lt =
-          let out : v.shape.size ≤ o.at = subst (λ p. v.shape.size ≤ p) found.1 (h.past found.0 (not_below found.0 shape.size e)) in
+          let out : v.shape.size ≤ o.at = subst (λ p. v.shape.size ≤ p) found.1 (h.past found.0 (ltb-false found.0 shape.size e)) in
           absurd (omega (arith, out, lt))
 
   line-own : (k line : ℕ) → OwnsIn (seen v) k line → OwnsIn v k line
