@@ -1,5 +1,6 @@
 -- What is printed reads back.
 use Rattle.std.proofs.Common.{◌≡◌, ℕ, zero, suc, ◌+◌, ◌/◌, ◌%◌, ◌^◌, ◌<◌, ◌==◌, ◌&&◌, ◌||◌, Bool, true, false, not, List, [], ◌∷◌, ◌++◌, length, get_or, slice_index, nat_le, Ok, refl, ap, arith}
+use Rattle.std.proofs.lemmas.Bool.{not_from_false, or_right}
 use Rattle.std.proofs.lemmas.Bool.Decides.{nat_tests}
 use Rattle.std.proofs.lemmas.Fmt.{decimal_is_IsNumeral, decimal_nonempty, decimal_by_steps, decimal_digit, length-decimal-le, first_decimal}
 use Rattle.std.specs.Fmt.{decimal}
@@ -31,15 +32,12 @@ decimal_all_digits n fits =
 all_hold : (a b c d : Bool) → a ≡ true → b ≡ true → c ≡ true → d ≡ true → (a && b && c && d) ≡ true
 all_hold a b c d p q r s = rw (p, q, r, s) refl
 
-or_true : (a b : Bool) → b ≡ false → (a || not b) ≡ true
-or_true true b is = refl
-or_true false b is = rw is refl
-
 no_leading_zero : (n : ℕ) → n < 2 ^ 64 → (length (decimal n) == 1 || not (slice_index (decimal n) 0 == 48)) ≡ true
 no_leading_zero zero fits = rw (decimal_digit 0 (omega arith)) refl
 no_leading_zero (suc n) fits =
     let first : 48 < get_or (decimal (suc n)) 0 0 = first_decimal (suc n) (omega arith) fits in
-    or_true (length (decimal (suc n)) == 1) (slice_index (decimal (suc n)) 0 == 48) (grind (arith, nat_tests, first))
+    let other : (slice_index (decimal (suc n)) 0 == 48) ≡ false = grind (arith, nat_tests, first) in
+    or_right (length (decimal (suc n)) == 1) (not (slice_index (decimal (suc n)) 0 == 48)) (not_from_false (slice_index (decimal (suc n)) 0 == 48) other)
 
 pub number_in-decimal : (n : ℕ) → n < 10 ^ 10 → number_in (decimal n) ≡ Ok n
 number_in-decimal n small =
