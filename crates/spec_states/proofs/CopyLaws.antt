@@ -1,5 +1,6 @@
 -- Every row of the tables keeps a copy up to date.
 use Rattle.std.proofs.Common.{◌≡◌, ℕ, ◌<◌, ◌==◌, ◌||◌, Bool, true, false, not, refl, sym, ap, arith, cond, ◌+◌, ◌≤◌, ◌∙◌}
+use Rattle.std.proofs.lemmas.Bool.{eqb-true, not-false, not_from_false, or_right}
 use Rattle.std.proofs.lemmas.Bool.Decides.{nat_tests}
 use Rattle.std.proofs.lemmas.Nat.{pow_pos}
 use Rattle.spec_states.specs.declared.line.LineState.{LineState}
@@ -205,10 +206,7 @@ other_publish-follows s marks = publish-follows s marks.loaded (Tables.is_writte
 
 -- a copy whose test of modified words fails has an empty mask
 empty_mask : (marks : Marks) → Tables.is_written marks ≡ false → marks.bytes ≡ 0
-empty_mask marks e = none marks.bytes e
-  where
-    none : (n : ℕ) → not (n == 0) ≡ false → n ≡ 0
-    none n e = grind (arith, nat_tests)
+empty_mask marks e = eqb-true marks.bytes 0 (not-false (marks.bytes == 0) e)
 
 violation_by : (s : LineState) (modified : Bool) (marks : Marks) → Tables.is_written marks ≡ modified
     → KeepsUpToDate s marks (Tables.next (Tables.violation_table s modified) Tables.no_marks)
@@ -315,11 +313,8 @@ own_load-read s marks offset width alone x within out =
     let e : (Tables.own_load s marks offset width alone).marks ≡ Tables.marks_after_load m offset width =
     own_load-marks s marks offset width alone in
     ap (λ (marks : Marks). marks.loaded) e
-    ∙ unowned m.loaded (has_all m.bytes offset width)
-    (has_all-false m.bytes offset width x within (sym (ap (λ (marks : Marks). has marks.bytes x) e) ∙ out))
-  where
-    unowned : (l b : Bool) → b ≡ false → (l || not b) ≡ true
-    unowned l b e = grind (arith, nat_tests)
+    ∙ or_right m.loaded (not (has_all m.bytes offset width))
+    (not_from_false (has_all m.bytes offset width) (has_all-false m.bytes offset width x within (sym (ap (λ (marks : Marks). has marks.bytes x) e) ∙ out)))
 
 -- the marks after a store
 pub own_store-marks : (s : LineState) (marks : Marks) (offset width : ℕ) (alone : Bool)

@@ -1,7 +1,7 @@
 -- Laws of the mask of modified bytes.
-use Rattle.std.proofs.Common.{◌≡◌, ◌≢◌, ℕ, zero, suc, ◌+◌, ◌-◌, ◌*◌, ◌%◌, ◌^◌, ◌<◌, ◌≤◌, inl, inr, ◌==◌, ◌&&◌, ◌||◌, Bool, true, false, ◌∙◌, max, min, ap, refl, sym, arith}
+use Rattle.std.proofs.Common.{◌≡◌, ◌≢◌, ℕ, zero, suc, ◌+◌, ◌-◌, ◌*◌, ◌%◌, ◌^◌, ◌<◌, ◌≤◌, inl, inr, ◌==◌, ◌||◌, Bool, true, false, ◌∙◌, max, min, ap, refl, sym, arith}
 use lib.Bits.{bit_and}
-use Rattle.std.proofs.lemmas.Bool.{cases_eq, cases_lt}
+use Rattle.std.proofs.lemmas.Bool.{cases_eq, cases_lt, and_from, and_parts, eq-eqb, ne_eqb, or_parts, or_right}
 use Rattle.std.proofs.lemmas.Bool.Decides.{nat_tests}
 use Rattle.std.proofs.lemmas.Nat.Bits.{bit_at_or, bit_at_and, bit_at-zero, bit_at-lt, bit_at_mask_inside, bit_at_mask_below, bit_at_mask_above, same_from_bits}
 use Rattle.std.proofs.lemmas.Nat.{or_lt, pow-add, pow_pos}
@@ -85,17 +85,11 @@ has-with_bytes bytes offset width x =
 
 -- a store's own bytes are in the mask
 pub has-stored : (bytes offset width x : ℕ) → is_within offset width x ≡ true → has (with_bytes bytes offset width) x ≡ true
-has-stored bytes offset width x within = has-with_bytes bytes offset width x ∙ right (has bytes x) (is_within offset width x) within
-  where
-    right : (b d : Bool) → d ≡ true → (b || d) ≡ true
-    right b d e = grind (arith, nat_tests)
+has-stored bytes offset width x within = has-with_bytes bytes offset width x ∙ or_right (has bytes x) (is_within offset width x) within
 
 -- a byte outside the mask after a store was outside it before
 pub has-before : (bytes offset width x : ℕ) → has (with_bytes bytes offset width) x ≡ false → has bytes x ≡ false
-has-before bytes offset width x out = left (has bytes x) (is_within offset width x) (sym (has-with_bytes bytes offset width x) ∙ out)
-  where
-    left : (b d : Bool) → (b || d) ≡ false → b ≡ false
-    left b d e = grind (arith, nat_tests)
+has-before bytes offset width x out = (or_parts (has bytes x) (is_within offset width x) (sym (has-with_bytes bytes offset width x) ∙ out)).0
 
 -- the mask after a store is not empty
 pub with_bytes-nonzero : (bytes offset width : ℕ) → 0 < width → with_bytes bytes offset width ≢ 0
@@ -124,16 +118,10 @@ has_all-true bytes offset zero x all within = absurd (none within)
     none e = grind (arith, nat_tests)
 has_all-true bytes offset (suc n) x all within =
     elim (cases_eq x offset) [
-      | inl e ↦ rw e (left (has bytes offset) _ all)
-      | inr ne ↦ has_all-true bytes (offset + 1) n x (right (has bytes offset) _ all) (later within ne)
+      | inl e ↦ rw e (and_parts (has bytes offset) _ all).0
+      | inr ne ↦ has_all-true bytes (offset + 1) n x (and_parts (has bytes offset) _ all).1 (later within ne)
     ]
   where
-    left : (b d : Bool) → (b && d) ≡ true → b ≡ true
-    left b d e = grind (arith, nat_tests)
-
-    right : (b d : Bool) → (b && d) ≡ true → d ≡ true
-    right b d e = grind (arith, nat_tests)
-
     later : is_within offset (suc n) x ≡ true → x ≢ offset → is_within (offset + 1) n x ≡ true
     later e ne = grind (arith, nat_tests)
 
@@ -143,11 +131,8 @@ pub has_all-from : (bytes offset width : ℕ) → ((x : ℕ) → is_within offse
 unfolding has_all
 has_all-from bytes offset zero each = refl
 has_all-from bytes offset (suc n) each =
-    both (has bytes offset) _ (each offset first) (has_all-from bytes (offset + 1) n (λ x e. each x (later x e)))
+    and_from (has bytes offset) _ (each offset first) (has_all-from bytes (offset + 1) n (λ x e. each x (later x e)))
   where
-    both : (b d : Bool) → b ≡ true → d ≡ true → (b && d) ≡ true
-    both b d e f = grind (arith, nat_tests)
-
     first : is_within offset (suc n) offset ≡ true
     first = grind (arith, nat_tests)
 
@@ -212,12 +197,6 @@ pub has_all-and : (bytes offset width : ℕ)
     → (bit_and bytes (2 ^ (offset + width) - 2 ^ offset) == (2 ^ (offset + width) - 2 ^ offset)) ≡ has_all bytes offset width
 has_all-and bytes offset width =
     elim (has_all bytes offset width) as (λ b. has_all bytes offset width ≡ b → (bit_and bytes (2 ^ (offset + width) - 2 ^ offset) == (2 ^ (offset + width) - 2 ^ offset)) ≡ b) [
-      | true ↦ λ e. equal _ _ (and_all bytes offset width e)
-      | false ↦ λ e. unequal _ _ (λ q. let all : has_all bytes offset width ≡ true = all_and bytes offset width q in cc)
+      | true ↦ λ e. eq-eqb _ _ (and_all bytes offset width e)
+      | false ↦ λ e. ne_eqb _ _ (λ q. let all : has_all bytes offset width ≡ true = all_and bytes offset width q in cc)
     ] refl
-  where
-    equal : (m n : ℕ) → m ≡ n → (m == n) ≡ true
-    equal m n e = grind (arith, nat_tests)
-
-    unequal : (m n : ℕ) → m ≢ n → (m == n) ≡ false
-    unequal m n e = grind (arith, nat_tests)
