@@ -1,5 +1,6 @@
 -- Lists in which each line stands once.
 use Rattle.std.proofs.Common.{◌≡◌, ℕ, suc, zero, ◌==◌, ◌||◌, ◌&&◌, not, Bool, true, false, List, [], ◌∷◌, ◌++◌, Some, refl, sym, ap, subst, ◌∙◌, arith, cond, length, length-append, ◌≤◌, ◌≢◌}
+use Rattle.std.proofs.lemmas.Bool.{eq-eqb, or_parts, or_right}
 use Rattle.std.proofs.lemmas.Bool.Decides.{nat_tests}
 use Rattle.std.proofs.lemmas.List.Folds.{list_any-append, list_any_none}
 use Rattle.std.specs.List.{remove, All, slice_get}
@@ -8,13 +9,10 @@ use Rattle.orb.specs.Lines.{Buffer, IsBuffer, holds, without, IsEachOnce}
 -- a line that is not there may come at the end
 pub IsEachOnce-push : (xs : List ℕ) (y : ℕ) → IsEachOnce xs → holds xs y ≡ false → IsEachOnce (xs ++ y ∷ [])
 IsEachOnce-push [] y once out = (refl, tt)
-IsEachOnce-push (x ∷ xs) y once out = (list_any-append (λ line. line == x) xs (y ∷ []) ∙ apart _ _ once.0 out, IsEachOnce-push xs y once.1 (right _ _ out))
+IsEachOnce-push (x ∷ xs) y once out = (list_any-append (λ line. line == x) xs (y ∷ []) ∙ apart _ _ once.0 out, IsEachOnce-push xs y once.1 (or_parts (x == y) (holds xs y) out).1)
   where
     apart : (b n : Bool) → b ≡ false → ((x == y) || n) ≡ false → (b || ((y == x) || false)) ≡ false
     apart b n h o = grind (arith, nat_tests)
-
-    right : (b d : Bool) → (b || d) ≡ false → d ≡ false
-    right b d h = grind (arith, nat_tests)
 
 -- without a line there are the others
 pub holds-without : (addr x : ℕ) (xs : List ℕ) → holds (without addr xs) x ≡ (holds xs x && not (x == addr))
@@ -45,10 +43,7 @@ without-absent addr (x ∷ xs) out = step (x == addr) (holds xs addr) out (witho
 pub holds-at : (xs : List ℕ) (i addr : ℕ) → slice_get xs i ≡ Some addr → holds xs addr ≡ true
 holds-at [] i addr at = cc
 holds-at (x ∷ xs) zero addr at = grind (arith, nat_tests)
-holds-at (x ∷ xs) (suc i) addr at = right (x == addr) _ (holds-at xs i addr at)
-  where
-    right : (b d : Bool) → d ≡ true → (b || d) ≡ true
-    right b d h = grind (arith, nat_tests)
+holds-at (x ∷ xs) (suc i) addr at = or_right (x == addr) _ (holds-at xs i addr at)
 
 -- where each line stands once, to take out its place is to take out the line
 pub remove-without : (xs : List ℕ) (i addr : ℕ) → IsEachOnce xs → slice_get xs i ≡ Some addr
@@ -57,11 +52,8 @@ remove-without [] i addr once at = cc
 remove-without (x ∷ xs) zero addr once at =
     let e : x ≡ addr = cc in
     let out : holds xs addr ≡ false = rw (← e) once.0 in
-    taken (x == addr) (same x addr e) (sym (without-absent addr xs out))
+    taken (x == addr) (eq-eqb x addr e) (sym (without-absent addr xs out))
   where
-    same : (a b : ℕ) → a ≡ b → (a == b) ≡ true
-    same a b e = grind (arith, nat_tests)
-
     taken : (b : Bool) → b ≡ true → xs ≡ without addr xs → xs ≡ cond (not b) (x ∷ without addr xs) (without addr xs)
     taken b h rest = rw h rest
 remove-without (x ∷ xs) (suc i) addr once at =
