@@ -1,6 +1,6 @@
 -- The way that a line takes.
-use Rattle.std.proofs.Common.{◌≡◌, ℕ, ◌+◌, ◌<◌, Bool, true, false, not, IfSome, IfNone, Option, Some, None, inl, inr, refl, sym, ap, ◌∙◌, arith}
-use Rattle.std.proofs.lemmas.Bool.{cases_eq}
+use Rattle.std.proofs.Common.{◌≡◌, ℕ, ◌+◌, ◌<◌, true, false, not, IfSome, IfNone, Option, Some, None, inl, inr, refl, sym, ap, ◌∙◌, arith}
+use Rattle.std.proofs.lemmas.Bool.{cases_eq, not-false, not-true}
 use Rattle.std.specs.Bool.{then_some}
 use Rattle.std.specs.List.{find, range_with_len}
 use Rattle.std.specs.Option.{option_or}
@@ -20,14 +20,6 @@ invalid-unmarked M e = refl
 invalid-unmarked SpS e = absurd cc
 invalid-unmarked SpE e = absurd cc
 
-off : (b : Bool) → not b ≡ true → b ≡ false
-off true e = sym e
-off false e = refl
-
-on : (b : Bool) → not b ≡ false → b ≡ true
-on true e = refl
-on false e = sym e
-
 -- the way that a line takes is one that carries no marks
 pub victim-unmarked : (cache : Contents) (addr : ℕ)
     → IfSome (victim_of cache addr) (λ way. (way < cache.geometry.ways) × (is_speculative (line_in cache addr way).state ≡ false))
@@ -37,10 +29,10 @@ victim-unmarked cache addr = pick (lowest_way is_invalid cache addr) (lowest_way
         → IfSome (option_or o p) (λ way. (way < cache.geometry.ways) × (is_speculative (line_in cache addr way).state ≡ false))
     pick (Some w) p e f =
         let h = found_first 0 cache.geometry.ways (λ v. is_invalid (line_in cache addr v)) w e in
-        (omega (arith, h.below), invalid-unmarked (line_in cache addr w).state (off _ h.passes))
+        (omega (arith, h.below), invalid-unmarked (line_in cache addr w).state (not-true _ h.passes))
     pick None (Some w) e f =
         let h = found_first 0 cache.geometry.ways (λ v. is_unmarked (line_in cache addr v)) w f in
-        (omega (arith, h.below), off _ h.passes)
+        (omega (arith, h.below), not-true _ h.passes)
     pick None None e f = tt
 
 -- where no way is for it, all carry marks
@@ -52,7 +44,7 @@ victim-full cache addr = pick (lowest_way is_invalid cache addr) (lowest_way is_
         → IfNone (option_or o p) ((way : ℕ) → way < cache.geometry.ways → is_speculative (line_in cache addr way).state ≡ true)
     pick (Some w) p f = tt
     pick None (Some w) f = tt
-    pick None None f = λ w lt. on _ (found_none 0 cache.geometry.ways (λ v. is_unmarked (line_in cache addr v)) f w (omega arith) (omega (arith, lt)))
+    pick None None f = λ w lt. not-false _ (found_none 0 cache.geometry.ways (λ v. is_unmarked (line_in cache addr v)) f w (omega arith) (omega (arith, lt)))
 
 -- ---- the loop over the ways
 

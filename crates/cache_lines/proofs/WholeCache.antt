@@ -1,6 +1,6 @@
 -- What a change of every line does to the lines that a cache holds.
 use Rattle.std.proofs.Common.{Option, option_map, ◌≡◌, ℕ, ◌<◌, ◌==◌, ◌&&◌, Bool, true, false, cond, Some, None, inl, inr, refl, ap, ◌∙◌, arith}
-use Rattle.std.proofs.lemmas.Bool.{cases_eq}
+use Rattle.std.proofs.lemmas.Bool.{cases_eq, and_right}
 use Rattle.std.proofs.lemmas.Bool.Decides.{nat_tests}
 use Rattle.std.proofs.lemmas.List.{get_or-map, length-map}
 use Rattle.std.proofs.lemmas.Nat.{pow_pos}
@@ -28,10 +28,6 @@ is_copy_of-changed change h line x =
   where
     test : (v w : Bool) (m n : ℕ) → m ≡ n → (v ≡ true → w ≡ true) → (v && (m == x)) ≡ (v && (w && (n == x)))
     test v w m n e up = grind (arith, nat_tests)
-
-never : (b : Bool) → (b && false) ≡ false
-never true = refl
-never false = refl
 
 -- the line that is held, where each line of the cache is changed so
 abbrev pub changed_held : (Line → Line) → Option Line → Option Line
@@ -68,7 +64,7 @@ IsPlaced-each change h cache placed =
             is_copy_of-changed change h (line_in cache addr other) addr,
             placed.once a w w_way (h.no_revival (line_in cache a w) v) other other_way apart,
           )
-          (never (is_valid (change (line_in cache (line_in cache a w).addr other)).state))));
+          (and_right (is_valid (change (line_in cache (line_in cache a w).addr other)).state) false refl)));
       fits =
           λ a w w_way. rw (line_in-each change cache placed a w w_way)
           (λ v. h.fits cache.line_length (line_in cache a w) v (placed.fits a w w_way (h.no_revival (line_in cache a w) v)));
@@ -80,7 +76,7 @@ pub held_line-each : (change : Line → Line) → KeepsAddresses change → (cac
 held_line-each change h cache placed addr =
     by_way cache addr (λ o. held_line new addr ≡ changed_held change (option_map (line_in cache addr) o))
     (λ w lt copy. one w lt copy (is_valid (change (line_in cache addr w)).state) refl)
-    (λ none. held_none new addr (λ w lt. seen w lt ∙ (ap (λ b. is_valid (change (line_in cache addr w)).state && b) (none w lt) ∙ never _)))
+    (λ none. held_none new addr (λ w lt. seen w lt ∙ (ap (λ b. is_valid (change (line_in cache addr w)).state && b) (none w lt) ∙ and_right _ false refl)))
   where
     new : Contents
     new = with_each_line change cache
@@ -99,7 +95,7 @@ held_line-each change h cache placed addr =
     one w lt copy false valid =
         held_none new addr (λ v v_way. seen v v_way ∙ (elim (cases_eq v w) [
           | inl same ↦ ap (λ u. is_valid (change (line_in cache addr u)).state && is_copy_of (line_in cache addr u) addr) same ∙ rw valid refl
-          | inr apart ↦ rw (IsPlaced-once cache placed addr w v lt v_way apart copy) (never _)
+          | inr apart ↦ rw (IsPlaced-once cache placed addr w v lt v_way apart copy) (and_right _ false refl)
         ]))
 
 -- a violation leaves each line's address, and revives none
