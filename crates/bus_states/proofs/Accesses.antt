@@ -1,8 +1,7 @@
 -- Speculative loads and stores keep the bus coherent, and what is committed.
-use Rattle.std.proofs.Common.{◌≡◌, ◌≢◌, ℕ, ◌+◌, ◌%◌, ◌<◌, ◌≤◌, ◌==◌, ◌&&◌, ◌||◌, not, Bool, true, false, cond, Option, Some, None, refl, sym, ap, subst, ◌∙◌, arith}
+use Rattle.std.proofs.Common.{◌≡◌, ◌≢◌, ℕ, ◌+◌, ◌%◌, ◌<◌, ◌≤◌, ◌==◌, ◌&&◌, ◌||◌, not, Bool, true, false, cond, Option, Some, None, refl, sym, ap, subst, ◌∙◌}
 use Rattle.std.proofs.Math.Path.{fun_ext}
-use Rattle.std.proofs.lemmas.Bool.{and_left, both_ways}
-use Rattle.std.proofs.lemmas.Bool.Decides.{nat_tests}
+use Rattle.std.proofs.lemmas.Bool.{and_left, both_ways, eqb-true, not-false, or_right}
 use Rattle.memory_bytes.specs.Bytes.{IsWidth}
 use Rattle.spec_states.specs.declared.next.Next.{Next}
 use Rattle.spec_states.specs.declared.line.Marks.{Marks}
@@ -265,24 +264,18 @@ pub store-masked : (bus : Bus) (core addr offset width : ℕ) (x : ℕ) → is_w
 store-masked bus core addr offset width x within =
     let mine : LineCopy = own bus core addr in
     own_store-mask mine.state mine.marks offset width (is_alone bus (message_of bus Store core addr)) x
-    ∙ or_true (has (marks_of mine.state mine.marks).bytes x) (is_within offset width x) within
-  where
-    or_true : (b d : Bool) → d ≡ true → (b || d) ≡ true
-    or_true b d e = grind (arith, nat_tests)
+    ∙ or_right (has (marks_of mine.state mine.marks).bytes x) (is_within offset width x) within
 
 -- a core that does not own the line has modified nothing of it
 pub unowned-unmodified : (copy : LineCopy) (c : ℕ → ℕ) → IsUpToDate copy c → owns_line copy.state copy.marks ≡ false → copy.marks.bytes ≡ 0
 unowned-unmodified copy c h e = by_state copy.state copy.marks e h.not_modified
   where
-    empty : (n : ℕ) → not (n == 0) ≡ false → n ≡ 0
-    empty n e = grind (arith, nat_tests)
-
     by_state : (s : LineState) (marks : Marks) → owns_line s marks ≡ false → (is_speculative s ≡ false → marks.bytes ≡ 0) → marks.bytes ≡ 0
     by_state I marks e f = f refl
     by_state S marks e f = f refl
     by_state E marks e f = f refl
     by_state M marks e f = f refl
-    by_state SpS marks e f = empty marks.bytes e
+    by_state SpS marks e f = eqb-true marks.bytes 0 (not-false (marks.bytes == 0) e)
     by_state SpE marks e f = cc
 
 pub store-owned : (bus : Bus) (core addr offset width : ℕ) (room : Option Room) → IsCoherent bus → MayAccess bus core addr room → IsWidth width

@@ -1,5 +1,6 @@
 -- The addresses of lines, and the bytes of a line of memory.
 use Rattle.std.proofs.Common.{◌≡◌, ℕ, ◌+◌, ◌-◌, ◌%◌, ◌<◌, ◌≤◌, ◌==◌, ◌⊎◌, inl, inr, nat_lt, true, false, cond, refl, sym, subst, arith}
+use Rattle.std.proofs.lemmas.Bool.{eq-eqb}
 use Rattle.std.proofs.lemmas.Bool.Decides.{nat_tests}
 use Rattle.spec_states.specs.Mask.{is_within}
 use Rattle.rv32_image.specs.Machine.{is_line_length}
@@ -68,12 +69,9 @@ with_line-here length addr line memory h aligned past x =
       | true ↦ λ e.
           let lt : x < length = grind (arith, nat_tests) in
           let at : addr + x - addr ≡ x = omega arith in
-          rw (same_line length addr addr x h aligned aligned lt, itself addr, at) refl
+          rw (same_line length addr addr x h aligned aligned lt, eq-eqb addr addr refl, at) refl
       | false ↦ λ e. let le : length ≤ x = grind (arith, nat_tests) in sym (past x le)
     ] refl
-  where
-    itself : (n : ℕ) → (n == n) ≡ true
-    itself n = grind (arith, nat_tests)
 
 -- another line stays
 pub with_line-elsewhere : (length addr a : ℕ) (line memory : ℕ → ℕ) → is_line_length length ≡ true → addr % length ≡ 0

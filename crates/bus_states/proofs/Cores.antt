@@ -1,6 +1,7 @@
 -- A core stays coherent: its buffer lists the lines that require ownership, and its marks belong to its attempt.
 use Rattle.std.proofs.Common.{◌≡◌, ◌≢◌, ℕ, ◌==◌, ◌||◌, ◌&&◌, not, Bool, true, false, cond, length, Option, refl, sym, ◌∙◌, arith}
 use Rattle.std.proofs.lemmas.Bool.Decides.{nat_tests}
+use Rattle.rv32_image.proofs.SmallFacts.{or_false}
 use Rattle.spec_states.specs.declared.next.Next.{Next}
 use Rattle.spec_states.specs.Copies.{LineCopy, no_copy}
 use Rattle.spec_states.specs.Rows.{requires_ownership}
@@ -19,10 +20,7 @@ use Rattle.bus_states.proofs.Copies.{made, made-state, made-required, unrequired
 entry-holds : (enters : Bool) (addr a : ℕ) (buffer : Buffer)
     → holds (with_entry enters addr buffer).lines a ≡ (holds buffer.lines a || (enters && (addr == a)))
 entry-holds true addr a buffer = holds-push buffer.lines addr a
-entry-holds false addr a buffer = tidy (holds buffer.lines a)
-  where
-    tidy : (b : Bool) → b ≡ (b || false)
-    tidy b = grind (arith, nat_tests)
+entry-holds false addr a buffer = sym (or_false (holds buffer.lines a))
 
 entry-buffer : (enters : Bool) (addr : ℕ) (buffer : Buffer) → IsBuffer buffer
     → (enters ≡ true → holds buffer.lines addr ≡ false) → (enters && is_full buffer) ≡ false

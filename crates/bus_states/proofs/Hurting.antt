@@ -3,7 +3,7 @@
 use Rattle.std.proofs.Common.{◌≡◌, ◌≢◌, ℕ, ◌%◌, ◌<◌, ◌==◌, ◌||◌, ◌&&◌, ◌⊎◌, inl, inr, not, nat_lt, Bool, true, false, cond, Option, Some, None, refl, sym, ap, subst, ◌∙◌, arith, ne_eqb}
 use Rattle.std.proofs.lemmas.Bool.{and_parts, both_ways}
 use Rattle.std.proofs.lemmas.Bool.Decides.{nat_tests}
-use Rattle.rv32_image.proofs.SmallFacts.{none_and_some}
+use Rattle.rv32_image.proofs.SmallFacts.{none_and_some, or_false}
 use Rattle.spec_states.specs.declared.line.LineState.{LineState}
 use Rattle.spec_states.specs.declared.line.Marks.{Marks}
 use Rattle.spec_states.specs.declared.next.Next.{Next}
@@ -113,11 +113,7 @@ hurts-then u v w core first second stays f s =
 pub hurts-then_none : (u v w : StoreView) (core : ℕ) (hurt : ℕ → Bool) → v.attempt core ≡ u.attempt core
     → HurtsLater u v core hurt → HurtsLater v w core (λ k. false) → HurtsLater u w core hurt
 hurts-then_none u v w core hurt stays f s =
-    hurts-same u w core hurt (λ k. hurt k || false) (λ k. tidy (hurt k)) (hurts-then u v w core hurt (λ k. false) stays f s)
-  where
-    tidy : (b : Bool) → b ≡ (b || false)
-    tidy true = refl
-    tidy false = refl
+    hurts-same u w core hurt (λ k. hurt k || false) (λ k. sym (or_false (hurt k))) (hurts-then u v w core hurt (λ k. false) stays f s)
 
 -- ---- a message
 

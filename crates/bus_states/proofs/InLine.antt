@@ -1,5 +1,5 @@
 -- An access lies in one line: its bytes by their places there.
-use Rattle.std.proofs.Common.{◌≡◌, ℕ, zero, suc, ◌+◌, ◌-◌, ◌%◌, ◌<◌, ◌≤◌, ◌==◌, ◌&&◌, Bool, true, false, cond, Some, None, unwrap_or, refl, sym, ap, ◌∙◌, arith}
+use Rattle.std.proofs.Common.{◌≡◌, ℕ, ◌+◌, ◌-◌, ◌%◌, ◌<◌, ◌≤◌, ◌==◌, ◌&&◌, Bool, true, false, cond, Some, None, unwrap_or, refl, sym, ap, ◌∙◌, arith}
 use Rattle.std.proofs.lemmas.Bool.Decides.{nat_tests}
 use Rattle.memory_bytes.specs.Bytes.{byte_of, number_at}
 use Rattle.memory_bytes.specs.Maps.{over, stored}
@@ -7,6 +7,7 @@ use Rattle.spec_states.specs.Mask.{is_within}
 use Rattle.spec_states.proofs.MaskLaws.{access-within, width-bounds}
 use Rattle.rv32_image.specs.Machine.{is_line_length}
 use Rattle.violations.specs.View.{Shape, is_accessed, IsLoad}
+use Rattle.violations.proofs.Relabelling.{number-shifted}
 use Rattle.bus_states.specs.Bus.{Bus, line_of, offset_of}
 use Rattle.bus_states.specs.Coherent.{IsCoherent}
 use Rattle.rv32_image.proofs.Bounds.{by_length}
@@ -85,22 +86,6 @@ accessed-there length size address width a h accessed =
     both m n d e = (grind (arith, nat_tests), grind (arith, nat_tests))
 
 -- ---- numbers
-
--- the number in bytes that stand elsewhere
-number-shifted : (f g : ℕ → ℕ) (a b width : ℕ) → ((i : ℕ) → i < width → f (a + i) ≡ g (b + i)) → number_at f a width ≡ number_at g b width
-unfolding number_at
-number-shifted f g a b zero same = refl
-number-shifted f g a b (suc n) same =
-    let first : f a ≡ g b = ap f (none a) ∙ same 0 (omega arith) ∙ ap g (sym (none b)) in
-    let rest : number_at f (a + 1) n ≡ number_at g (b + 1) n =
-    number-shifted f g (a + 1) (b + 1) n (λ i lt. ap f (next a i) ∙ same (i + 1) (omega arith) ∙ ap g (sym (next b i))) in
-    rw (first, rest) refl
-  where
-    none : (a : ℕ) → a ≡ a + 0
-    none a = omega arith
-
-    next : (a i : ℕ) → a + 1 + i ≡ a + (i + 1)
-    next a i = omega arith
 
 -- the number in the bytes of an access, from those of its line
 pub number-line : (length size address width : ℕ) (lines : ℕ → ℕ → ℕ) → LiesInLine length size address width

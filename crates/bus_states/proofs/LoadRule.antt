@@ -1,6 +1,6 @@
 -- A speculative load does what the store's rule says.
-use Rattle.std.proofs.Common.{◌≡◌, ℕ, zero, suc, ◌+◌, ◌^◌, ◌%◌, ◌<◌, ◌≤◌, ◌&&◌, ◌||◌, not, Bool, true, false, cond, Option, None, refl, sym, ap, subst, ◌∙◌, true≢false, arith}
-use Rattle.std.proofs.lemmas.Bool.{both_ways}
+use Rattle.std.proofs.Common.{◌≡◌, ℕ, zero, suc, ◌+◌, ◌^◌, ◌%◌, ◌<◌, ◌≤◌, ◌||◌, not, Bool, true, false, cond, Option, None, refl, sym, ap, subst, ◌∙◌, true≢false, arith, inl, inr}
+use Rattle.std.proofs.lemmas.Bool.{both_ways, and_cases, or_left}
 use Rattle.std.proofs.lemmas.Bool.Decides.{nat_tests}
 use Rattle.memory_bytes.specs.Bytes.{IsWidth, number_at}
 use Rattle.spec_states.specs.declared.line.Marks.{Marks}
@@ -66,17 +66,13 @@ is-outside : (mask offset width : ℕ) → has_all mask offset width ≡ false �
 unfolding has_all
 is-outside mask offset zero e = absurd (let x : ⊥ = cc in x)
 is-outside mask offset (suc n) e =
-    elim (has mask offset) as (λ b. has mask offset ≡ b → IsOutside mask offset (suc n)) [
-      | true ↦ λ first.
-          let rest = is-outside mask (offset + 1) n (after (has mask offset) _ first e) in
-          record { at = rest.at; within = later rest.at rest.within; out = rest.out }
-      | false ↦ λ first. record { at = offset; within = is_within-first offset (suc n) (omega arith); out = first }
-    ] refl
+    elim (and_cases (has mask offset) _ e) [
+      | inl first ↦ record { at = offset; within = is_within-first offset (suc n) (omega arith); out = first }
+      | inr others ↦
+          (let rest = is-outside mask (offset + 1) n others in
+          record { at = rest.at; within = later rest.at rest.within; out = rest.out })
+    ]
   where
-    after : (b d : Bool) → b ≡ true → (b && d) ≡ false → d ≡ false
-    after true d e f = f
-    after false d e f = cc
-
     later : (x : ℕ) → is_within (offset + 1) n x ≡ true → is_within offset (suc n) x ≡ true
     later x e = grind (arith, nat_tests)
 
@@ -116,7 +112,7 @@ load-loaded bus core addr offset width room h may widths goes =
       still =
           λ a aligned. by_line (λ (a : ℕ). a % bus.line_length ≡ 0 → (own bus core a).marks.loaded ≡ true → (own new core a).marks.loaded ≡ true) addr a
           (λ _ was. ap (λ (marks : Marks). marks.loaded) t.marks_are ∙ ap (λ (marks : Marks). marks.loaded) marks
-          ∙ either (marks_of mine.state mine.marks).loaded _ (carried-loaded mine (committed bus addr) up ∙ was))
+          ∙ or_left (marks_of mine.state mine.marks).loaded _ (carried-loaded mine (committed bus addr) up ∙ was))
           (λ e a_aligned was. (t.elsewhere a a_aligned e).loaded ∙ was) aligned;
       read =
           λ x within out. ap (λ (marks : Marks). marks.loaded) t.marks_are
@@ -149,9 +145,6 @@ load-loaded bus core addr offset width room h may widths goes =
 
     same_mask : (x : ℕ) → has (load_next bus core addr offset width).marks.bytes x ≡ has (own bus core addr).marks.bytes x
     same_mask x = ap (λ (marks : Marks). has marks.bytes x) marks ∙ ap (λ (mask : ℕ). has mask x) (carried-bytes mine (committed bus addr) up)
-
-    either : (b d : Bool) → b ≡ true → (b || d) ≡ true
-    either b d e = rw e refl
 
     not_all : (b d : Bool) → (b || not d) ≡ true → b ≡ false → d ≡ false
     not_all true d e f = cc

@@ -1,6 +1,6 @@
 -- The attempts of the cores stay ordered through every call, and what every store keeps follows.
 use Rattle.std.proofs.Common.{◌≡◌, ◌≢◌, inl, inr, ℕ, ◌%◌, ◌<◌, ◌≤◌, nat_lt, Bool, true, false, Option, Some, refl, sym, ap, subst, ◌∙◌, arith}
-use Rattle.std.proofs.lemmas.Bool.{cases_eq}
+use Rattle.std.proofs.lemmas.Bool.{cases_eq, lt-ltb}
 use Rattle.std.proofs.lemmas.Bool.Decides.{nat_tests}
 use Rattle.rv32_image.proofs.SmallFacts.{one_value, none_and_some}
 use Rattle.spec_states.specs.States.{is_speculative}
@@ -186,10 +186,7 @@ ordered-publishes old new core hurt h may publishes =
 -- ---- the first core
 
 later-than : (o p : Option Attempt) (x y : Attempt) → o ≡ Some x → p ≡ Some y → x.epoch < y.epoch → nat_lt (epoch_of o) (epoch_of p) ≡ true
-later-than o p x y e f lt = rw (e, f) (before x.epoch y.epoch lt)
-  where
-    before : (m n : ℕ) → m < n → nat_lt m n ≡ true
-    before m n lt = grind (arith, nat_tests)
+later-than o p x y e f lt = rw (e, f) (lt-ltb x.epoch y.epoch lt)
 
 -- a core is the first where the attempts of all others are later
 first-core : (bus : Bus) (core : ℕ) (x : Attempt) → (bus.core core).attempt ≡ Some x

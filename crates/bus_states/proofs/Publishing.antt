@@ -1,7 +1,7 @@
 -- A publish keeps the bus coherent, and commits what the core saw.
 use Rattle.std.proofs.Common.{◌≡◌, ℕ, ◌%◌, ◌<◌, ◌==◌, ◌&&◌, ◌⊎◌, inl, inr, not, Bool, true, false, cond, List, [], ◌∷◌, None, refl, sym, ap, subst, ◌∙◌, arith}
 use Rattle.std.proofs.Math.Path.{fun_ext}
-use Rattle.std.proofs.lemmas.Bool.{both_ways}
+use Rattle.std.proofs.lemmas.Bool.{both_ways, eqb-true, not-false}
 use Rattle.std.proofs.lemmas.Bool.Decides.{nat_tests}
 use Rattle.std.proofs.lemmas.Nat.{pow_pos}
 use Rattle.spec_states.specs.declared.next.Next.{Next}
@@ -246,9 +246,6 @@ record SettlesQuietly (s : LineState) (marks : Marks) (next : Next) : Type 0 whe
   pub unwritten : is_modified next.state ≡ false → marks.bytes ≡ 0
   pub owned : (marks.bytes ≡ 0) ⊎ (is_exclusive s ≡ true)
 
-no_bytes : (n : ℕ) → not (n == 0) ≡ false → n ≡ 0
-no_bytes n e = grind (arith, nat_tests)
-
 settles-quietly : (s : LineState) (marks : Marks) (m : Bool) → not (marks.bytes == 0) ≡ m → requires_ownership s marks ≡ false
     → (is_speculative s ≡ false → marks.bytes ≡ 0) → SettlesQuietly s marks (settlement s marks true)
 settles-quietly I marks m w e f = record { exclusive = λ x. x; modified = λ x. refl; unwritten = λ x. f refl; owned = inl (f refl) }
@@ -257,11 +254,13 @@ settles-quietly E marks m w e f = record { exclusive = λ x. x; modified = λ x.
 settles-quietly M marks m w e f = record { exclusive = λ x. x; modified = λ x. x; unwritten = λ x. f refl; owned = inl (f refl) }
 settles-quietly SpS marks true w e f = cc
 settles-quietly SpS marks false w e f =
-    rw w (record { exclusive = λ x. x; modified = λ x. refl; unwritten = λ x. no_bytes marks.bytes w; owned = inl (no_bytes marks.bytes w) })
+    let none = eqb-true marks.bytes 0 (not-false (marks.bytes == 0) w) in
+    rw w (record { exclusive = λ x. x; modified = λ x. refl; unwritten = λ x. none; owned = inl none })
 settles-quietly SpE marks true w e f =
     rw w (record { exclusive = λ x. refl; modified = λ x. refl; unwritten = λ x. cc; owned = inr refl })
 settles-quietly SpE marks false w e f =
-    rw w (record { exclusive = λ x. refl; modified = λ x. refl; unwritten = λ x. no_bytes marks.bytes w; owned = inl (no_bytes marks.bytes w) })
+    let none = eqb-true marks.bytes 0 (not-false (marks.bytes == 0) w) in
+    rw w (record { exclusive = λ x. refl; modified = λ x. refl; unwritten = λ x. none; owned = inl none })
 
 pub settle-quietly : (bus : Bus) (core : ℕ) → IsCoherent bus → core < bus.shape.cores → (bus.core core).buffer.lines ≡ []
     → ChangesQuietly bus core (settled_core (bus.core core)) bus.memory (sees bus core)

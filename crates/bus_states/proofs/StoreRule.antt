@@ -1,6 +1,6 @@
 -- A speculative store does what the store's rule says.
 use Rattle.std.proofs.Common.{◌≡◌, ℕ, ◌+◌, ◌-◌, ◌%◌, ◌<◌, ◌≤◌, ◌==◌, ◌≢◌, ◌⊎◌, ◌&&◌, ◌||◌, Bool, true, false, cond, Option, None, refl, sym, ap, subst, ◌∙◌, lt-ltb}
-use Rattle.std.proofs.lemmas.Bool.{or_right, both_ways}
+use Rattle.std.proofs.lemmas.Bool.{or_right, both_ways, or_parts}
 use Rattle.memory_bytes.specs.Bytes.{IsWidth, byte_of}
 use Rattle.rv32_image.proofs.SmallFacts.{or_false}
 use Rattle.spec_states.specs.declared.line.Marks.{Marks}
@@ -168,15 +168,10 @@ store-stored bus core addr offset width value room h may widths inside goes =
         (λ _. ap (λ (marks : Marks). has marks.bytes x) t.marks_are ∙ mask x ∙ rw (itself addr) refl)
         (λ e a_aligned. ap (λ (bytes : ℕ). has bytes x) (t.elsewhere a a_aligned e).bytes ∙ rw e (sym (or_false (has (own bus core a).marks.bytes x)))) aligned
 
-    -- the mask had it not before
-    before : (b d : Bool) → (b || d) ≡ false → b ≡ false
-    before true d e = e
-    before false d e = refl
-
     sees_mid : (a : ℕ) → a % bus.line_length ≡ 0 → (x : ℕ) → sees mid core a x ≡ sees bus core a x
     sees_mid =
         taken-sees bus mid core addr (store_next bus core addr offset width).marks (store_violates bus core addr) h t may.aligned
-        (λ x e. before (has mine.marks.bytes x) (is_within offset width x) (sym (mask x) ∙ e))
+        (λ x e. (or_parts (has mine.marks.bytes x) (is_within offset width x) (sym (mask x) ∙ e)).0)
 
     same : (a : ℕ) → a % bus.line_length ≡ 0 → (x : ℕ) → committed new a x ≡ committed mid a x
     same a aligned x =

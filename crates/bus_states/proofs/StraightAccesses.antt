@@ -1,7 +1,7 @@
 -- Straight loads and stores keep the bus coherent; a straight store commits its bytes.
-use Rattle.std.proofs.Common.{◌≡◌, ◌≢◌, ℕ, ◌+◌, ◌%◌, ◌^◌, ◌<◌, ◌≤◌, ◌==◌, ◌&&◌, ◌||◌, inr, not, Bool, true, false, cond, Option, None, refl, sym, subst, ◌∙◌, arith}
+use Rattle.std.proofs.Common.{◌≡◌, ◌≢◌, ℕ, ◌+◌, ◌%◌, ◌^◌, ◌<◌, ◌≤◌, ◌==◌, ◌&&◌, inr, not, Bool, true, false, cond, Option, None, refl, sym, subst, ◌∙◌, arith}
 use Rattle.std.proofs.Math.Path.{fun_ext}
-use Rattle.std.proofs.lemmas.Bool.{both_ways}
+use Rattle.std.proofs.lemmas.Bool.{both_ways, and_parts, or_right}
 use Rattle.std.proofs.lemmas.Bool.Decides.{nat_tests}
 use Rattle.std.proofs.lemmas.Nat.{pow_pos}
 use Rattle.spec_states.specs.declared.next.Next.{Next}
@@ -42,12 +42,8 @@ pub enters-speculates : (bus : Bus) (message : Message) (k : ℕ) → IsCoherent
 enters-speculates bus message k h aligned enters =
     let row = message-gives_way bus message k h aligned in
     pick (speculates (bus.core k).attempt) refl
-    (required (reply bus message k).state (reply bus message k).marks (left _ _ (sym row.enters ∙ enters))) row.unmarked
+    (required (reply bus message k).state (reply bus message k).marks (and_parts (requires_ownership (reply bus message k).state (reply bus message k).marks) _ (sym row.enters ∙ enters)).0) row.unmarked
   where
-    left : (b d : Bool) → (b && d) ≡ true → b ≡ true
-    left true d e = refl
-    left false d e = e
-
     required : (s : LineState) (marks : Marks) → requires_ownership s marks ≡ true → is_speculative s ≡ true
     required I marks e = e
     required S marks e = e
@@ -142,10 +138,6 @@ straight-takes bus message room room2 s h may valid calm past same_line victim a
       has_room = refl;
     }
   where
-    or_right : (b d : Bool) → d ≡ true → (b || d) ≡ true
-    or_right true d e = refl
-    or_right false d e = e
-
     within : (b : Bool) → (cond b no_marks no_marks).bytes < 2 ^ bus.line_length
     within true = pow_pos bus.line_length
     within false = pow_pos bus.line_length
@@ -205,6 +197,14 @@ alone-exclusive M e = refl
 alone-exclusive SpS e = e
 alone-exclusive SpE e = refl
 
+alone-valid : (s : LineState) → stores_alone s ≡ true → is_valid s ≡ true
+alone-valid I e = e
+alone-valid S e = refl
+alone-valid E e = refl
+alone-valid M e = refl
+alone-valid SpS e = refl
+alone-valid SpE e = refl
+
 store-alone : (bus : Bus) (core addr offset width value : ℕ) (room : Option Room) → IsCoherent bus
     → MayAccessStraight bus core addr room → offset + width ≤ bus.line_length → stores_alone (own bus core addr).state ≡ true
     → ChangesOne bus core addr (changed_copy (copy_with_number offset width value (own bus core addr)) (unmarked_next M)) bus.memory
@@ -214,7 +214,7 @@ store-alone bus core addr offset width value room h may inside alone =
     let exclusive : is_exclusive mine.state ≡ true = alone-exclusive mine.state alone in
     record {
       in_cores = may.in_cores;
-      held = valid mine.state alone;
+      held = alone-valid mine.state alone;
       stays =
           with_copy-coherent (bus.core core) addr (copy_of M no_marks (with_number mine.cell offset width value)) (h.cores core)
           (sym (unrequired mine.state mine.marks (own-unmarked bus core addr room h may))) (λ _. refl);
@@ -229,14 +229,6 @@ store-alone bus core addr offset width value room h may inside alone =
       in_memory = λ m others x. cc;
       elsewhere = λ a aligned e x. refl;
     }
-  where
-    valid : (s : LineState) → stores_alone s ≡ true → is_valid s ≡ true
-    valid I e = e
-    valid S e = refl
-    valid E e = refl
-    valid M e = refl
-    valid SpS e = refl
-    valid SpE e = refl
 
 -- the core's own line as stored
 abbrev pub stored_alone : Bus → ℕ → ℕ → ℕ → ℕ → ℕ → LineCopy
@@ -275,21 +267,13 @@ pub straight_store-with : (bus : Bus) (core addr offset width value : ℕ) (room
     → IsCoherentWith (after_straight_store bus core addr offset width value room) (stored_lines bus core addr offset width value)
 straight_store-with bus core addr offset width value room h may inside = pick (stores_alone (own bus core addr).state) refl
   where
-    held : (s : LineState) → stores_alone s ≡ true → is_valid s ≡ true
-    held I e = e
-    held S e = refl
-    held E e = refl
-    held M e = refl
-    held SpS e = refl
-    held SpE e = refl
-
     pick : (b : Bool) → stores_alone (own bus core addr).state ≡ b
         → IsCoherentWith (cond b
         (record bus { core = λ k. cond (k == core) (with_copy addr (stored_alone bus core addr offset width value) (bus.core core)) (bus.core k) })
         (after_message bus (straight_store_message bus core addr offset width value) (room_for bus core addr room) (unmarked_next (cond (is_alone bus (straight_store_message bus core addr offset width value)) M S))))
         (stored_lines bus core addr offset width value)
     pick true e =
-        let seen : (own bus core addr).cell ≡ sees bus core addr = fun_ext (sees-held bus core addr h may.aligned (held (own bus core addr).state e)) in
+        let seen : (own bus core addr).cell ≡ sees bus core addr = fun_ext (sees-held bus core addr h may.aligned (alone-valid (own bus core addr).state e)) in
         subst (λ (line : ℕ → ℕ). IsCoherentWith (record bus { core = λ k. cond (k == core) (with_copy addr (stored_alone bus core addr offset width value) (bus.core core)) (bus.core k) }) (one_line bus addr (with_number line offset width value)))
         seen
         (quiet-with bus core (with_copy addr (stored_alone bus core addr offset width value) (bus.core core)) bus.memory

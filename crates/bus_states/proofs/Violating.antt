@@ -1,6 +1,6 @@
 -- Whom a message violates: those that have loaded its line, and those whose full buffers have no place for it.
 use Rattle.std.proofs.Common.{◌≡◌, ◌≢◌, ℕ, zero, suc, ◌%◌, ◌<◌, ◌≤◌, ◌==◌, ◌||◌, ◌&&◌, ◌⊎◌, inl, inr, not, nat_lt, Bool, true, false, cond, List, [], ◌∷◌, length, slice_index_or, refl, sym, ap, subst, ◌∙◌, arith, ne_eqb}
-use Rattle.std.proofs.lemmas.Bool.{or_right, and_parts, both_ways}
+use Rattle.std.proofs.lemmas.Bool.{or_right, and_parts, both_ways, false_from_ne_true, not-true}
 use Rattle.std.proofs.lemmas.Bool.Decides.{nat_tests}
 use Rattle.spec_states.specs.declared.line.LineState.{LineState}
 use Rattle.spec_states.specs.declared.line.Marks.{Marks}
@@ -52,19 +52,11 @@ enters-modified : (copy : LineCopy) (c : ℕ → ℕ) (next : Next) → IsUpToDa
 enters-modified copy c next h row enters =
     let both = sym row.enters ∙ enters in
     let required : requires_ownership next.state next.marks ≡ true = (and_parts (requires_ownership next.state next.marks) _ both).0 in
-    let unviolated : next.violated ≡ false = stays next.violated (λ e. both_ways _ (ap (λ (s : LineState). requires_ownership s next.marks) (row.goes e)) required) in
+    let unviolated : next.violated ≡ false = false_from_ne_true next.violated (λ e. both_ways _ (ap (λ (s : LineState). requires_ownership s next.marks) (row.goes e)) required) in
     let same : next.marks.bytes ≡ copy.marks.bytes = ap (λ (marks : Marks). marks.bytes) (row.keeps_marks unviolated) ∙ carried-bytes copy c h in (
       (λ none. required-modified next.state next.marks required (same ∙ none)),
-      unlisted (requires_ownership copy.state copy.marks) (and_parts (requires_ownership next.state next.marks) _ both).1,
+      not-true (requires_ownership copy.state copy.marks) (and_parts (requires_ownership next.state next.marks) _ both).1,
     )
-  where
-    stays : (b : Bool) → (b ≡ true → ⊥) → b ≡ false
-    stays true never = absurd (never refl)
-    stays false never = refl
-
-    unlisted : (b : Bool) → not b ≡ true → b ≡ false
-    unlisted true e = cc
-    unlisted false e = refl
 
 -- a core that a message violates is there
 violated-there : (bus : Bus) (message : Message) (k : ℕ) → IsCoherent bus → violates bus message k ≡ true → k < bus.shape.cores
