@@ -1,7 +1,7 @@
 -- What loads and stores answer.
-use Rattle.std.proofs.Common.{◌≡◌, ℕ, ◌<◌, ◌^◌, ◌%◌, ◌==◌, Bool, true, false, cond, length, List, Option, Some, None, slice_get, refl, sym, ap, subst, ◌∙◌, arith}
+use Rattle.std.proofs.Common.{◌≡◌, ℕ, ◌<◌, ◌^◌, ◌%◌, ◌==◌, Bool, true, false, cond, length, List, Option, Some, None, slice_get, refl, sym, ap, subst, ◌∙◌}
+use Rattle.std.proofs.lemmas.Bool.{eq-eqb}
 use Rattle.std.proofs.Math.Path.{fun_ext}
-use Rattle.std.proofs.lemmas.Bool.Decides.{nat_tests}
 use Rattle.memory_bytes.specs.Bytes.{IsWidth, number_at}
 use Rattle.spec_states.specs.Copies.{LineCopy}
 use Rattle.spec_states.proofs.RowLaws.{own_store-takes_hold, speculative-valid}
@@ -112,13 +112,10 @@ pub claimed_length : (bus : Bus) (core addr offset width : ℕ) (room : Option R
     → ((after_claim bus core addr offset width room).core core).line_length ≡ (bus.core core).line_length
 claimed_length bus core addr offset width room = pick (owns bus core addr)
   where
-    itself : (n : ℕ) → (n == n) ≡ true
-    itself n = grind (arith, nat_tests)
-
     pick : (b : Bool) → ((cond b (kept_line bus core addr (store_next bus core addr offset width))
         (after_message bus (message_of bus Store core addr) (room_for bus core addr room) (store_next bus core addr offset width))).core core).line_length ≡ (bus.core core).line_length
-    pick true = rw (itself core) refl
-    pick false = rw (itself core) refl
+    pick true = rw (eq-eqb core core refl) refl
+    pick false = rw (eq-eqb core core refl) refl
 
 -- and there are as many cores
 pub claimed_count : (bus : Bus) (core addr offset width : ℕ) (room : Option Room)

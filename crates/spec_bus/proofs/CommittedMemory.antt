@@ -2,7 +2,7 @@
 use Rattle.std.proofs.Common.{◌≡◌, ℕ, ◌+◌, ◌-◌, ◌*◌, ◌/◌, ◌%◌, ◌<◌, ◌==◌, ◌||◌, ◌&&◌, nat_lt, Bool, true, false, cond, option_map, length, true≢false, refl, sym, ap, ◌∙◌, arith, add-one}
 use Rattle.std.proofs.Math.Nat.{mod-lt, mod-eq_of_lt, mul-div_cancel}
 use Rattle.std.proofs.lemmas.Nat.{div-mul-add, mod-mul-add}
-use Rattle.std.proofs.lemmas.Bool.{false_from_ne_true}
+use Rattle.std.proofs.lemmas.Bool.{false_from_ne_true, eq-eqb}
 use Rattle.std.proofs.lemmas.Bool.Decides.{nat_tests}
 use Rattle.spec_states.specs.Copies.{LineCopy}
 use Rattle.spec_states.specs.Mask.{is_within}
@@ -19,7 +19,7 @@ use Rattle.cache_lines.proofs.LineLaws.{is_copy_of-true, line_in-same_set, by_wa
 use Rattle.bus_states.specs.Bus.{Bus, CoreState, line_of, offset_of, memory_line, some_core, committed_among}
 use Rattle.bus_states.specs.Coherent.{IsCoherent}
 use Rattle.bus_states.specs.Messages.{with_line}
-use Rattle.rv32_image.proofs.Bounds.{by_length}
+use Rattle.rv32_image.proofs.Bounds.{by_length, place_in}
 use Rattle.bus_states.proofs.Addresses.{line-and_offset, offset-in_line}
 use Rattle.bus_states.proofs.Coherence.{none_below, none_at_all}
 use Rattle.spec_bus.specs.CoreStates.{state_of, line_in_place, is_modified_in, FitsMemory}
@@ -103,14 +103,12 @@ of_set : (cache : Contents) (a w : ℕ) → IsPlaced cache → w < cache.geometr
     → (set_of cache (place cache a w / cache.geometry.ways * cache.line_length) ≡ set_of cache a) × (place cache a w % cache.geometry.ways ≡ w)
 of_set cache a w h way =
     let n : ℕ = cache.line_length in
-    let set : ℕ = set_of cache a in (
+    let set : ℕ = set_of cache a in
+    let some : 0 < n = omega (arith, place_in n 0 h.length_is) in (
       ap (λ s. s * n / n % cache.geometry.sets) (div-mul-add set cache.geometry.ways w way)
-          ∙ (ap (λ s. s % cache.geometry.sets) (mul-div_cancel set (positive n h.length_is)) ∙ mod-eq_of_lt (set-lt cache h.geometry_is a)),
+          ∙ (ap (λ s. s % cache.geometry.sets) (mul-div_cancel set some) ∙ mod-eq_of_lt (set-lt cache h.geometry_is a)),
       mod-mul-add set cache.geometry.ways w way,
     )
-  where
-    positive : (n : ℕ) → is_line_length n ≡ true → 0 < n
-    positive n is = grind (arith, nat_tests)
 
 -- the copy of a line is M just where a line in some place is
 pub some_modified : (cache : Contents) (a : ℕ) → IsPlaced cache
@@ -146,11 +144,8 @@ some_modified cache a h = same (some_core (cache.geometry.sets * cache.geometry.
         let copy = copy_at-line cache h a w a way held in
         let both = is_copy_of-true (line_in cache a w) a held in
         let modified : is_modified (line_in cache a w).state ≡ true = ap (λ (c : LineCopy). is_modified c.state) (sym copy) ∙ m in
-        let own : ((line_in cache a w).addr == a) ≡ true = rw both.1 (itself a) in
+        let own : ((line_in cache a w).addr == a) ≡ true = rw both.1 (eq-eqb a a refl) in
         (at, place-lt cache h.geometry_is a w way, ap (λ (l : Line). is_modified l.state && (l.addr == a)) is_line ∙ rw (modified, own) refl)
-      where
-        itself : (x : ℕ) → (x == x) ≡ true
-        itself x = grind (arith, nat_tests)
 
     somewhere : is_modified (copy_at cache a).state ≡ true → (at : ℕ) × (at < places) × (is_modified_in cache a at ≡ true)
     somewhere m =

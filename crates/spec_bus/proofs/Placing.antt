@@ -44,10 +44,7 @@ abbrev pub place_at : ℕ → Option Apart → Parts → ℕ → ℕ
 place_at size apart parts a = place_in size apart parts (min a size)
 
 pub at_address : (size : ℕ) (apart : Option Apart) (parts : Parts) (a : ℕ) → a < size → place_at size apart parts a ≡ place_in size apart parts a
-at_address size apart parts a lt = ap (place_in size apart parts) (least a size lt)
-  where
-    least : (a n : ℕ) → a < n → min a n ≡ a
-    least a n lt = omega arith
+at_address size apart parts a lt = let same : min a size ≡ a = omega arith in ap (place_in size apart parts) same
 
 -- the parts as contracts see them
 abbrev pub shown : ℕ → Option Apart → Parts → CachedView

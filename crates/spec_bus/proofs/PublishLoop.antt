@@ -2,6 +2,7 @@
 use Rattle.std.proofs.Common.{◌≡◌, ℕ, ◌<◌, ◌==◌, ◌||◌, Bool, true, false, cond, List, [], ◌∷◌, length, Some, None, slice_get, refl, sym, ap, subst, ◌∙◌, arith}
 use Rattle.spec_states.specs.declared.next.Next.{Next}
 use Rattle.std.proofs.lemmas.Bool.Decides.{nat_tests}
+use Rattle.rv32_image.proofs.SmallFacts.{or_false}
 use Rattle.orb.specs.Lines.{holds, without}
 use Rattle.bus_states.specs.declared.notice.Notice.TheVariants.{Publish}
 use Rattle.bus_states.specs.Bus.{CoreState, Bus, sees}
@@ -107,11 +108,7 @@ pub publishing_hurt : (old now : Bus) (core : ℕ) (hurt : ℕ → Bool) → IsP
     → slice_get (now.core core).buffer.lines 0 ≡ None → (k : ℕ) → hurt k ≡ lines_violate old core (old.core core).buffer.lines k
 unfolding lines_violate
 publishing_hurt old now core hurt p none k =
-    or_none (hurt k) ∙ sym (ap (λ xs. hurt k || lines_violate now core xs k) (none_left (now.core core).buffer.lines none)) ∙ p.violated k
-  where
-    or_none : (b : Bool) → b ≡ (b || false)
-    or_none true = refl
-    or_none false = refl
+    sym (or_false (hurt k)) ∙ sym (ap (λ xs. hurt k || lines_violate now core xs k) (none_left (now.core core).buffer.lines none)) ∙ p.violated k
 
 -- a line fewer is left
 pub publishing_less : (mid new : Bus) (core addr : ℕ) → IsCoherent mid → core < mid.shape.cores

@@ -1,5 +1,6 @@
 -- The loop in which the other cores hear a message.
 use Rattle.std.proofs.Common.{◌≡◌, ◌≢◌, ℕ, ◌+◌, ◌<◌, ◌≤◌, ◌%◌, ◌==◌, ◌&&◌, not, nat_lt, Bool, true, false, cond, length, slice_get, refl, sym, ap, subst, ◌∙◌, arith, ne_eqb}
+use Rattle.std.proofs.lemmas.Bool.{eq-eqb}
 use Rattle.std.proofs.lemmas.Bool.Decides.{nat_tests}
 use Rattle.orb.specs.Lines.{holds}
 use Rattle.violations.specs.View.{epoch_of}
@@ -119,12 +120,9 @@ heard_more n old mid new message core told apart count others memory code machin
       machine = machine ∙ told.machine;
       core =
           λ k. step n k message.sender (heard_core (bus_in old) message k) ((bus_in old).core k) ((bus_in new).core k) apart
-          (λ e. rw e (subst (λ (b : Bool). (bus_in new).core n ≡ cond b core ((bus_in mid).core n)) (equal n) (heard n) ∙ is_core))
+          (λ e. rw e (subst (λ (b : Bool). (bus_in new).core n ≡ cond b core ((bus_in mid).core n)) (eq-eqb n n refl) (heard n) ∙ is_core))
           (λ e. rw e at (heard k) ∙ told.core k);
     }
-  where
-    equal : (n : ℕ) → (n == n) ≡ true
-    equal n = grind (arith, nat_tests)
 
 -- the sender's turn is passed over
 pub heard_skip : (n : ℕ) (old mid : Parts) (message : Message) → AreTelling old mid message n → n ≡ message.sender
