@@ -36,11 +36,7 @@ passing_byte image line test is =
 
 pub none_passes : (image : LoadedImage) (line : ℕ) (test : ℕ → Bool) → line_has image line test ≡ false → (a : ℕ) → a < image.size → line_number image a ≡ line → test a ≡ false
 none_passes image line test none a below at =
-    fails (line_number image a == line) (test a) (eq-eqb (line_number image a) line at) (none_below image.size (λ b. (line_number image b == line) && test b) none a below)
-  where
-    fails : (b c : Bool) → b ≡ true → (b && c) ≡ false → c ≡ false
-    fails true c is none = none
-    fails false c is none = cc
+    sym (ap (λ b. b && test a) (eq-eqb (line_number image a) line at)) ∙ none_below image.size (λ b. (line_number image b == line) && test b) none a below
 
 -- a byte of a line of memory lies in memory
 pub same_line_below : (image : LoadedImage) (a b : ℕ) → IsMachineFor image.size image.machine → line_number image a ≡ line_number image b → a < image.size → b < image.size
