@@ -2,7 +2,7 @@
 -- turn.
 use Rattle.std.proofs.Common.{◌≡◌, ◌≤◌, ◌+◌, ◌*◌, ℕ, Bool, true, false, cond, List, [], ◌++◌, length, Option, Some, None, IsSome, true≢false, vec_len, vec_capacity, refl, sym, ap, subst, ◌∙◌, inl, inr, arith, eq-eqb, ne_eqb}
 use Rattle.std.proofs.Math.Path.{fun_ext}
-use Rattle.std.proofs.lemmas.Bool.{cases_eq}
+use Rattle.std.proofs.lemmas.Bool.{cases_eq, false_from_ne_true}
 use Rattle.std.proofs.lemmas.List.{length-append}
 use Rattle.memory_bytes.specs.Maps.{nothing}
 use Rattle.rv32_exec.specs.declared.stop.Stop.{Stop}
@@ -158,12 +158,8 @@ module _ (waits : Waits) (old mid : Register) (v x : StoreView) (core : ℕ) (no
 
   -- who was hurt by the publish has no attempt that the access could hurt
   hurt_once : (w : StoreView) (hurt : ℕ → Bool) → HurtsLater x w core hurt → (k : ℕ) → g.hurt k ≡ true → hurt k ≡ false
-  hurt_once w hurt others k first = never (hurt k) (λ later. twice (first_hurt now.straight g.publishes) (others.hurts k later))
+  hurt_once w hurt others k first = false_from_ne_true (hurt k) (λ later. twice (first_hurt now.straight g.publishes) (others.hurts k later))
     where
-      never : (b : Bool) → (b ≡ true → ⊥) → b ≡ false
-      never true not = absurd (not refl)
-      never false not = refl
-
       twice : x.attempt k ≡ None → IsHurt x w core k → ⊥
       twice none again = let had = again.had in cc
 

@@ -1,7 +1,8 @@
 -- Notes one after another, and what a method's notes make of a turn.
-use Rattle.std.proofs.Common.{◌≡◌, ◌≤◌, ◌+◌, ℕ, ◌==◌, Bool, true, false, cond, List, [], ◌∷◌, ◌++◌, length, Option, Some, None, option_map, vec_len, vec_capacity, refl, sym, ap, subst, ◌∙◌, arith}
+use Rattle.std.proofs.Common.{◌≡◌, ◌≤◌, ◌+◌, ℕ, ◌==◌, Bool, true, false, cond, List, [], ◌∷◌, ◌++◌, length, Option, Some, None, option_map, vec_len, vec_capacity, refl, sym, ap, subst, ◌∙◌, arith, append-nil}
 use Rattle.std.proofs.Common.{append_assoc}
 use Rattle.std.proofs.lemmas.List.{length-append}
+use Rattle.std.proofs.lemmas.Option.{same_Some}
 use Rattle.rv32_image.specs.Image.{LoadedImage}
 use Rattle.run_ledger.specs.declared.counts.Counts.{Counts}
 use Rattle.run_ledger.specs.Counts.{sum_of}
@@ -81,20 +82,13 @@ unfolding counts_of
 steps_none r shares = record {
   image = refl;
   cores = refl;
-  history = sym (append_nil_of r.history.items);
+  history = sym (append-nil r.history.items);
   totals = sym (sum_none r.totals);
   held = sym (sum_none shares);
   room = omega arith;
   used = omega arith;
-  follows = λ s t is_image reached shows replays. let same : s ≡ t = one_state s t (sym (no_entry r.image (length r.running.items) s) ∙ replays) in subst (Shows r) same shows;
+  follows = λ s t is_image reached shows replays. let same : s ≡ t = same_Some s t (sym (no_entry r.image (length r.running.items) s) ∙ replays) in subst (Shows r) same shows;
 }
-  where
-    one_state : (s t : FlatState) → Some s ≡ Some t → s ≡ t
-    one_state s t is = cc
-
-    append_nil_of : (xs : List Entry) → xs ++ [] ≡ xs
-    append_nil_of [] = refl
-    append_nil_of (x ∷ xs) = ap (λ (ys : List Entry). x ∷ ys) (append_nil_of xs)
 
 used_then : (a b c : ℕ) (first later : List Entry) → b ≡ a + length first → c ≡ b + length later → c ≡ a + length (first ++ later)
 used_then a b c first later one two = rw (length-append first later) (omega (arith, one, two))

@@ -1,7 +1,7 @@
 -- Whom the calls of a turn violate: the cores that lose their attempts, which the views before and after it show.
 use Rattle.std.proofs.Common.{◌≡◌, ◌≢◌, ℕ, ◌&&◌, not, Bool, true, false, Option, Some, None, is_some, refl, sym, ap, ◌∙◌, inl, inr, true≢false}
 use Rattle.std.proofs.Math.Path.{fun_ext}
-use Rattle.std.proofs.lemmas.Bool.{cases_eq}
+use Rattle.std.proofs.lemmas.Bool.{cases_eq, and_right}
 use Rattle.violations.specs.declared.attempt.Attempt.{Attempt}
 use Rattle.violations.specs.View.{StoreView, attempt_of, epoch_of}
 use Rattle.violations.specs.Rule.{IsSameView, HurtsLater, Guards, Publishes}
@@ -21,10 +21,6 @@ lost_none (Some t) y e = ap (λ o. not (is_some o)) e
 and_true : (b : Bool) → (b && true) ≡ b
 and_true true = refl
 and_true false = refl
-
-and_false : (b : Bool) → (b && false) ≡ false
-and_false true = refl
-and_false false = refl
 
 -- one call of a core that keeps its own attempt
 hurt_at : (v w : StoreView) (by : ℕ) (hurt : ℕ → Bool) → HurtsLater v w by hurt → w.attempt by ≡ v.attempt by → (k : ℕ) → hurt k ≡ lost v w k
@@ -61,13 +57,13 @@ later_is v x w by first second publishes hurts own = fun_ext at
     at k = pick (first k) refl
       where
         pick : (b : Bool) → first k ≡ b → second k ≡ lost_later first v w k
-        pick true e = none_after k (publishes.others.hurts k e).none ∙ sym (ap (λ b. lost v w k && not b) e ∙ and_false (lost v w k))
+        pick true e = none_after k (publishes.others.hurts k e).none ∙ sym (ap (λ b. lost v w k && not b) e ∙ and_right (lost v w k) false refl)
         pick false e = elim (cases_eq k by) [
           | inl same ↦
               let now : x.attempt k ≡ Some (attempt_of (epoch_of (v.attempt by)) true) = ap x.attempt same ∙ publishes.attempt in
               let kept : w.attempt k ≡ x.attempt k = ap w.attempt same ∙ (own ∙ ap x.attempt (sym same)) in
               ap second same ∙ (hurts.not_itself ∙ sym (ap (λ o. (is_some (v.attempt k) && not (is_some o)) && not (first k)) (kept ∙ now)
-              ∙ (ap (λ b. b && not (first k)) (and_false (is_some (v.attempt k))))))
+              ∙ (ap (λ b. b && not (first k)) (and_right (is_some (v.attempt k)) false refl))))
           | inr other ↦
               let spared : x.attempt k ≡ v.attempt k = (publishes.others.spares k other e).attempt in
               hurt_at x w by second hurts own k ∙ (ap (λ o. is_some o && not (is_some (w.attempt k))) spared

@@ -1,7 +1,7 @@
 -- What comes of a turn, by the state, the stop, why the store waits there, and the views before and after.
 use Rattle.std.proofs.Common.{◌≡◌, ◌≢◌, ℕ, ◌+◌, ◌==◌, ◌&&◌, not, nat_lt, Bool, true, false, [], ◌++◌, Option, Some, None, is_some, if◌then◌else◌, option_map, refl, sym, ap, subst, ◌∙◌, true≢false, eq-eqb, ne_eqb}
 use Rattle.std.proofs.Math.Path.{fun_ext}
-use Rattle.std.proofs.lemmas.Bool.{lt-ltb, le-ltb}
+use Rattle.std.proofs.lemmas.Bool.{lt-ltb, le-ltb, and_right}
 use Rattle.rv32_image.proofs.SmallFacts.{value_of}
 use Rattle.memory_bytes.specs.Bytes.{number_at}
 use Rattle.rv32_exec.specs.declared.stop.Stop.{Stop}
@@ -124,10 +124,6 @@ handed_false next c false is stale = refl
 abbrev nobody : ℕ → Bool
 nobody k = false
 
-and_false : (b : Bool) → (b && false) ≡ false
-and_false true = refl
-and_false false = refl
-
 never : (t : Turn) (v : StoreView) (publishes : Bool) → publishes ≡ false → IsFirst t.core v publishes nobody
 never t v publishes none = record { readers = λ e. absurd (true≢false (sym e ∙ none)); nobody = λ e k. refl }
 
@@ -210,7 +206,7 @@ told_is t handed v w out is h =
     at_core t c handed v w out h.runs (record {
       first = nobody;
       is_first = never t v (publishes_of t (Some c) (wait_here t (Some c)) handed)
-          (ap (λ b. not c.hurt && (b && publishes_at t c (wait_here t (Some c)) (next_event t.image c.hart).at)) none ∙ and_false (not c.hurt));
+          (ap (λ b. not c.hurt && (b && publishes_at t c (wait_here t (Some c)) (next_event t.image c.hart).at)) none ∙ and_right (not c.hurt) false refl);
       out_is = h.out_is ∙ sym (ap (λ b. if b then does (entry_of t Restart) (Go (start_of t.image c.epoch))
           else if handed then at_stop t c (wait_here t (Some c)) nobody v w (next_event t.image c.hart).at else does [] (Go c.hart)) h.unhurt
           ∙ ap (λ b. if b then at_stop t c (wait_here t (Some c)) nobody v w (next_event t.image c.hart).at else does [] (Go c.hart)) none);
@@ -244,7 +240,7 @@ store_is t handed v w out is h =
     ∙ sym (ap (λ b. if b then stores_straight t c nobody v w h.address h.width h.value else stores t c v w h.address h.width h.value) h.comes.speculates))))
 
 later_none : (t : Turn) (c : CoreState) (wait : Option WaitCause) (at : Stop) → c.epoch ≢ t.state.homefree → publishes_at t c wait at ≡ false
-later_none t c wait at later = ap (λ b. wants wait at && (b && not c.straight)) (ne_eqb c.epoch t.state.homefree later) ∙ and_false (wants wait at)
+later_none t c wait at later = ap (λ b. wants wait at && (b && not c.straight)) (ne_eqb c.epoch t.state.homefree later) ∙ and_right (wants wait at) false refl
 
 waits_is : (t : Turn) (handed : Bool) (v w : StoreView) (out : Outcome) → IsHanded (option_map kept_of (t.state.cores t.core)) t.next handed → turn.IsWait t v w out → IsOutcome t (t.state.cores t.core) handed v w out
 waits_is t handed v w out is h =
@@ -302,7 +298,7 @@ first_of t c wait at v x hurt wanted home publishes = pick c.straight refl publi
     pick : (b : Bool) → c.straight ≡ b → turn.publishes_unless b v x t.core hurt → IsFirst t.core v (publishes_at t c wait at) hurt
     pick true e p =
         let none : publishes_at t c wait at ≡ false = ap (λ b. wants wait at && ((c.epoch == t.state.homefree) && not b)) e
-        ∙ (ap (λ b. wants wait at && b) (and_false (c.epoch == t.state.homefree)) ∙ and_false (wants wait at)) in
+        ∙ (ap (λ b. wants wait at && b) (and_right (c.epoch == t.state.homefree) false refl) ∙ and_right (wants wait at) false refl) in
         record { readers = λ is. absurd (true≢false (sym is ∙ none)); nobody = λ is. p.1 }
     pick false e p =
         let all : publishes_at t c wait at ≡ true = ap (λ b. b && ((c.epoch == t.state.homefree) && not c.straight)) (wanted e)

@@ -1,5 +1,6 @@
 -- A turn is fixed by the book and what its store holds.
 use Rattle.std.proofs.Common.{◌≡◌, ◌≢◌, ℕ, ◌==◌, ◌&&◌, ◌++◌, not, Bool, true, false, List, [], ◌∷◌, Option, Some, None, Result, Ok, Err, if◌then◌else◌, option_map, refl, sym, ap, subst, ◌∙◌, arith}
+use Rattle.std.proofs.lemmas.Bool.{and_right}
 use Rattle.std.proofs.Math.Path.{fun_ext}
 use Rattle.rv32_image.specs.Image.{LoadedImage}
 use Rattle.rv32_exec.specs.declared.stop.Stop.{Stop}
@@ -89,12 +90,7 @@ same_publishes t (Some c) handed handed' wait wait' a = pick c.hurt refl
     wanted o b = wants o at && (same && not b)
 
     never : (x : Bool) → (x && (same && false)) ≡ false
-    never true = and_false same
-      where
-        and_false : (b : Bool) → (b && false) ≡ false
-        and_false true = refl
-        and_false false = refl
-    never false = refl
+    never x = and_right x (same && false) (and_right same false refl)
 
     by_straight : (b : Bool) → c.straight ≡ b → handed ≡ true → c.hurt ≡ false → wanted wait b ≡ wanted wait' b
     by_straight true e h unhurt = never (wants wait at) ∙ sym (never (wants wait' at))

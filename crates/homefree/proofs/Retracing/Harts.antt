@@ -1,5 +1,6 @@
 -- What the entries of a core leave of the others, and what a commit leaves of the core itself.
 use Rattle.std.proofs.Common.{◌≡◌, ◌≢◌, ℕ, ◌==◌, ◌||◌, Bool, true, false, if◌then◌else◌, All, List, [], ◌∷◌, ◌++◌, Option, Some, None, refl, sym, ap, subst, ◌∙◌}
+use Rattle.std.proofs.lemmas.Bool.{or_parts}
 use Rattle.std.proofs.lemmas.List.Elements.{All-head, All-tail}
 use Rattle.rv32_image.specs.Image.{LoadedImage}
 use Rattle.rv32_image.proofs.SmallFacts.{one_value}
@@ -28,11 +29,7 @@ unmarked : (core c : CoreState) (more : Bool) → Some (marked core (core.hurt |
 unmarked core c more is unhurt =
     let same : marked core (core.hurt || more) ≡ c = cc in
     let none : (core.hurt || more) ≡ false = ap (λ (x : CoreState). x.hurt) same ∙ unhurt in
-    ap (λ b. Some (marked core b)) (first core.hurt more none ∙ sym none) ∙ is
-  where
-    first : (a b : Bool) → (a || b) ≡ false → a ≡ false
-    first true b e = e
-    first false b e = refl
+    ap (λ b. Some (marked core b)) ((or_parts core.hurt more none).0 ∙ sym none) ∙ is
 
 stays_hurt : (epoch : ℕ) (o : Option CoreState) → Stays o (hurt_at epoch o)
 stays_hurt epoch None c is unhurt = is

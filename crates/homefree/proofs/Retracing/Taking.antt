@@ -1,6 +1,6 @@
 -- A turn that makes an entry of its own is taken so too by a core that has its hart in hand; any other leaves the store as it was.
 use Rattle.std.proofs.Common.{◌≡◌, ◌≢◌, ℕ, zero, suc, ◌+◌, ◌<◌, ◌==◌, ◌&&◌, nat_lt, not, Bool, true, false, if◌then◌else◌, cond, List, [], ◌∷◌, ◌++◌, Option, Some, None, IsSome, option_map, ◌⊎◌, inl, inr, refl, sym, ap, subst, ◌∙◌, true≢false, ne_eqb}
-use Rattle.std.proofs.lemmas.Bool.{lt-ltb, le-ltb}
+use Rattle.std.proofs.lemmas.Bool.{lt-ltb, le-ltb, and_right, and_left, cond-false, cond-true}
 use Rattle.std.proofs.lemmas.Grind.{flat_map-append}
 use Rattle.rv32_image.proofs.SmallFacts.{one_value, none_and_some}
 use Rattle.rv32_exec.specs.declared.stop.Stop.{Stop}
@@ -34,11 +34,7 @@ one_turn cores by what there own =
     ap (λ b. (if b then by ∷ [] else []) ++ []) (ap (λ b. b && is_of_own what) (lt-ltb by cores there) ∙ own)
 
 no_turn : (cores by : ℕ) (what : What) → is_of_own what ≡ false → turns_of cores (entry by what) ≡ []
-no_turn cores by what other = ap (λ b. (if b then by ∷ [] else []) ++ []) (ap (λ b. nat_lt by cores && b) other ∙ and_false (nat_lt by cores))
-  where
-    and_false : (b : Bool) → (b && false) ≡ false
-    and_false true = refl
-    and_false false = refl
+no_turn cores by what other = ap (λ b. (if b then by ∷ [] else []) ++ []) (ap (λ b. nat_lt by cores && b) other ∙ and_right (nat_lt by cores) false refl)
 
 no_turn_if : (cores by : ℕ) (b : Bool) (what : What) → is_of_own what ≡ false → turns_of cores (cond b (entry by what) []) ≡ []
 no_turn_if cores by true what other = no_turn cores by what other
@@ -369,25 +365,13 @@ module _ {S : Type 0} (makes : S → Call → S → Type 0) (view : S → StoreV
   never_handed false true exit none = absurd (true≢false none)
   never_handed false false exit none = refl
 
-  if_none : (b : Bool) (xs : List Call) → b ≡ false → (if b then xs else []) ≡ []
-  if_none true xs none = absurd (true≢false none)
-  if_none false xs none = refl
-
-  and_first : (b c : Bool) → b ≡ false → (b && c) ≡ false
-  and_first true c none = absurd (true≢false none)
-  and_first false c none = refl
-
-  if_first : (b : Bool) (xs ys : List Call) → b ≡ true → (if b then xs else ys) ≡ xs
-  if_first true xs ys is = refl
-  if_first false xs ys is = absurd (true≢false (sym is))
-
   hurt_stays : (hurt handed exit : Bool) → hurt ≡ true → (not hurt && handed && exit) ≡ false
   hurt_stays true handed exit is = refl
   hurt_stays false handed exit is = absurd (true≢false (sym is))
 
   none_rests : (v w : StoreView) (out : Outcome) → turn.IsNoneLeft t v w out → u ≡ r
   none_rests v w out l =
-      no_moves _ _ (if_none _ _ (le-ltb t.state.next_epoch t.image.epochs l.left)) refl (moves_at None l.idle)
+      no_moves _ _ (cond-false _ _ _ (le-ltb t.state.next_epoch t.image.epochs l.left)) refl (moves_at None l.idle)
 
   told_rests : (v w : StoreView) (out : Outcome) → turn.IsTold t v w out → u ≡ r
   told_rests v w out l =
@@ -408,13 +392,13 @@ module _ {S : Type 0} (makes : S → Call → S → Type 0) (view : S → StoreV
       calls : (at : Stop) → IsEnd at → stop_calls t.image t.waits t.state.homefree t.core (kept_of l.core) now at ≡ []
       calls (stop.Load address width signed rd) ends = absurd ends
       calls (stop.Store address width value) ends = absurd ends
-      calls stop.Ended ends = if_none _ _ apart
-      calls (stop.Fault cause pc) ends = if_none _ _ apart
+      calls stop.Ended ends = cond-false _ _ _ apart
+      calls (stop.Fault cause pc) ends = cond-false _ _ _ apart
 
       exits : (at : Stop) → IsEnd at → is_exit t.image t.state.homefree (kept_of l.core) now at ≡ false
       exits (stop.Load address width signed rd) ends = absurd ends
       exits (stop.Store address width value) ends = absurd ends
-      exits stop.Ended ends = and_first _ _ apart
+      exits stop.Ended ends = and_left _ _ apart
       exits (stop.Fault cause pc) ends = refl
 
   has_to_wait : (v w : StoreView) (out : Outcome) → (l : turn.IsWait t v w out) → HasToWait t.waits t.state.homefree t.core (kept_of l.core) (next_event t.image l.core.hart).at
@@ -437,7 +421,7 @@ module _ {S : Type 0} (makes : S → Call → S → Type 0) (view : S → StoreV
   moves_with next handed hands = pick (t.state.cores t.core) refl
     where
       hurt_calls : (c : CoreState) → c.hurt ≡ true → (b : Bool) → calls_of (standing_of t) (Some (kept_of c)) b ≡ Begin t.core c.epoch ∷ []
-      hurt_calls c hurt b = if_first _ _ _ hurt
+      hurt_calls c hurt b = cond-true _ _ _ hurt
 
       hurt_exits : (c : CoreState) → c.hurt ≡ true → (b : Bool) → exits_of (standing_of t) (Some (kept_of c)) b ≡ false
       hurt_exits c hurt b = hurt_stays c.hurt b _ hurt

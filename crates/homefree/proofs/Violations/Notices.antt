@@ -31,11 +31,7 @@ pub writes_none : (C : Type 0) (image : LoadedImage) (s : FlatState) (e : Entry)
 writes_none C image s e none holds k missed =
     absurd (true≢false (sym missed.reads ∙ and_right (is_some (read_bytes (s.cores k) missed.at)) _
     (no_line image.size (λ a. (line_number image a == line_number image missed.at) && is_some (written (s.cores e.by) e.what a))
-    (λ a. ap (λ o. (line_number image a == line_number image missed.at) && is_some o) (none a) ∙ and_false (line_number image a == line_number image missed.at)))))
-  where
-    and_false : (b : Bool) → (b && false) ≡ false
-    and_false true = refl
-    and_false false = refl
+    (λ a. ap (λ o. (line_number image a == line_number image missed.at) && is_some o) (none a) ∙ and_right (line_number image a == line_number image missed.at) false refl))))
 
 notice_writes : (core : Option CoreState) (what : What) (a : ℕ) → is_notice what ≡ true → written core what a ≡ None
 notice_writes core (Hurt epoch) a is = refl

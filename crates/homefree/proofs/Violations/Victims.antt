@@ -246,9 +246,6 @@ module _ (C : Type 0) (image : LoadedImage) (count : ℕ) (s : FlatState) (v : S
   abbrev Explained : FlatState → ℕ → What → Type 0
   Explained t k what = IsExplained (v.cached ≡ false) image t by k (Some what)
 
-  some_store : (what other : What) → Some what ≡ Some other → what ≡ other
-  some_store what other is = cc
-
   guards_known : (x : StoreView) (t : FlatState) (j k : ℕ) (what : What) (bytes : ℕ → Bool) (q : Victim x j) → Found t j k q.core → Guards x j bytes
       → ((a : ℕ) → bytes a ≡ true → is_some (written (t.cores by) what a) ≡ true) → kind_of image t by k (Some what) ≢ Unexplained
   guards_known x t j k what bytes q f g writes =
@@ -259,7 +256,7 @@ module _ (C : Type 0) (image : LoadedImage) (count : ℕ) (s : FlatState) (v : S
       → ((a : ℕ) → bytes a ≡ true → is_some (written (t.cores by) what a) ≡ true) → commits_bytes (t.cores by) what ≡ true → v.cached ≡ false → MeetsInBytes image t by k (Some what)
   guards_meet x t j k what bytes q f g writes commits alone = record {
     kind = is_shared_byte image x (meeting t by what k) what q.core g.at (q.same_kind ∙ alone) f.reads (read_within j q.core q.runs) (writes g.at g.is_one) (q.keeps.guards_only g.at g.guarded);
-    commits = λ other same. subst (λ w. commits_bytes (t.cores by) w ≡ true) (some_store what other same) commits;
+    commits = λ other same. subst (λ w. commits_bytes (t.cores by) w ≡ true) (same_Some what other same) commits;
   }
 
   never_crowded : (x : StoreView) (j address : ℕ) (q : Victim x j) → IsCrowded x j address → v.cached ≡ false → ⊥
@@ -267,10 +264,7 @@ module _ (C : Type 0) (image : LoadedImage) (count : ℕ) (s : FlatState) (v : S
 
   no_store : (what : What) → ((address width value : ℕ) → what ≢ Store address width value) → (t : FlatState) (other : What) → Some what ≡ Some other
       → IsFurtherStore image t (record { by = by; what = other }) → ⊥
-  no_store what isnt t other same f = isnt f.address f.width f.value (some_what what other same ∙ f.stores)
-    where
-      some_what : (x y : What) → Some x ≡ Some y → x ≡ y
-      some_what x y is = cc
+  no_store what isnt t other same f = isnt f.address f.width f.value (same_Some what other same ∙ f.stores)
 
   pub loads_known : (x : StoreView) (t : FlatState) (j k address width value : ℕ) (q : Victim x j) → Found t j k q.core → IsCrowded x j address → Explained t k (Load address width value)
   loads_known x t j k address width value q f crowded = record {
@@ -314,7 +308,7 @@ module _ (C : Type 0) (image : LoadedImage) (count : ℕ) (s : FlatState) (v : S
       kind = store_kind v t j k address width value q f (l.meets j is);
       first = λ what same further.
           let me = caller hurt n t p in
-          let which : address ≡ further.address = store_address address width value further.address further.width further.value (some_store (Store address width value) what same ∙ further.stores) in
+          let which : address ≡ further.address = store_address address width value further.address further.width further.value (same_Some (Store address width value) what same ∙ further.stores) in
           let bytes = ap bytes_of (one_value (t.cores by) further.core me.core further.runs me.at) ∙ me.bytes in
           let own = has_stored t address further.core within bytes (ap (λ a. line_has image (line_number image a) (λ b. is_some (further.core.own b))) which ∙ further.before) in
           true≢false (sym is ∙ l.told own j);
