@@ -1,5 +1,5 @@
 -- On one core no epoch is violated, and none is later than the homefree one.
-use Rattle.std.proofs.Common.{◌≡◌, ◌≢◌, ℕ, zero, suc, ◌+◌, ◌<◌, ◌==◌, ◌&&◌, not, nat_lt, Bool, true, false, List, [], ◌∷◌, Option, Some, None, Result, Ok, Err, refl, sym, ap, subst, ◌∙◌, true≢false, arith, eqb-true, ltb-true}
+use Rattle.std.proofs.Common.{◌≡◌, ◌≢◌, ℕ, zero, suc, ◌+◌, ◌<◌, ◌==◌, ◌&&◌, not, nat_lt, Bool, true, false, List, [], ◌∷◌, Option, Some, None, Result, Ok, Err, refl, sym, ap, subst, ◌∙◌, true≢false, arith, eqb-true, ltb-true, suc-ne-zero}
 use Rattle.std.proofs.lemmas.Bool.{and_parts}
 use Rattle.std.proofs.lemmas.Option.{same_Some}
 use Rattle.rv32_image.specs.Image.{LoadedImage}
@@ -38,9 +38,6 @@ pub record IsAlone (s : FlatState) : Type 0 where
 pub the_first : (core cores : ℕ) → core < cores → cores ≡ 1 → core ≡ 0
 the_first core cores below one = omega (arith, below, one)
 
-suc_isnt : (k : ℕ) → suc k ≢ 0
-suc_isnt k is = omega (arith, is)
-
 with_alone : (s : FlatState) (committed : ℕ → ℕ) (homefree published next_epoch : ℕ) (end : Option End) (core : CoreState) → IsAlone s → core.epoch ≡ homefree
     → next_epoch ≡ homefree + 1 → core.hurt ≡ false
     → IsAlone (record { committed = committed; homefree = homefree; published = published; next_epoch = next_epoch; end = end; cores = with_core s.cores 0 (Some core) })
@@ -48,7 +45,7 @@ with_alone s committed homefree published next_epoch end core a epoch next unhur
   idle = λ none. absurd (none_and_some _ core none (with_core_same s.cores 0 (Some core)));
   runs = λ c is. subst (λ (d : CoreState). (d.epoch ≡ homefree) × (next_epoch ≡ homefree + 1) × (d.hurt ≡ false))
       (same_Some core c (sym (with_core_same s.cores 0 (Some core)) ∙ is)) (epoch, next, unhurt);
-  others = λ k. with_core_other s.cores 0 (Some core) (suc k) (suc_isnt k) ∙ a.others k;
+  others = λ k. with_core_other s.cores 0 (Some core) (suc k) (suc-ne-zero k) ∙ a.others k;
 }
 
 -- ---- what a legal entry tells
@@ -97,7 +94,7 @@ on_alone image s c Publish at legal a = let r = a.runs c at in with_alone s _ _ 
 on_alone image s c Commit at legal a = record {
   idle = λ none. (a.runs c at).1;
   runs = λ d is. absurd (none_and_some _ d (with_core_same s.cores 0 None) is);
-  others = λ k. with_core_other s.cores 0 None (suc k) (suc_isnt k) ∙ a.others k;
+  others = λ k. with_core_other s.cores 0 None (suc k) (suc-ne-zero k) ∙ a.others k;
 }
 on_alone image s c (Fault cause pc) at legal a = record { idle = a.idle; runs = a.runs; others = a.others }
 

@@ -1,7 +1,7 @@
 -- The turn that begins first, core by core.
-use Rattle.std.proofs.Common.{◌≡◌, ℕ, ◌+◌, ◌<◌, ◌≤◌, ◌==◌, ◌&&◌, ◌||◌, not, nat_le, nat_lt, Bool, true, false, cond, Option, Some, None, option_map, refl, sym, ap, subst, ◌∙◌, inl, inr, true≢false, arith, eqb-true, ltb-true, leb-true, lt-ltb, eq-eqb, le-leb}
-use Rattle.std.proofs.lemmas.Bool.{cases_eq}
-use Rattle.std.proofs.lemmas.Option.{same_Some}
+use Rattle.std.proofs.Common.{◌≡◌, ℕ, ◌+◌, ◌<◌, ◌≤◌, ◌==◌, ◌&&◌, ◌||◌, nat_le, nat_lt, Bool, true, false, cond, Option, Some, None, option_map, refl, sym, ap, subst, ◌∙◌, inl, inr, true≢false, arith, eqb-true, ltb-true, leb-true, eq-eqb, le-leb}
+use Rattle.std.proofs.lemmas.Bool.{cases_eq, ltb-false, not-false, or_parts}
+use Rattle.std.proofs.lemmas.Option.{same_Some, none-some}
 use Rattle.rv32_exec.specs.Arrival.{Arrival}
 use Rattle.rv32_exec.specs.Hart.{HartState}
 use Rattle.spec_history.specs.FlatState.{FlatState}
@@ -45,24 +45,14 @@ record IsLater (t : Turn) (at due : ℕ) : Type 0 where
   least : at ≤ t.at
   first : t.at ≡ at → due < t.due
 
-lt_false : (a b : ℕ) → nat_lt a b ≡ false → b ≤ a
-lt_false a b fails = omega (arith, not_less a b fails)
-  where
-    not_less : (x y : ℕ) → nat_lt x y ≡ false → x < y → ⊥
-    not_less x y fails less = let is : nat_lt x y ≡ true = lt-ltb x y less in absurd cc
-
 is_later : (t : Turn) (at due : ℕ) → is_no_later t at due ≡ false → IsLater t at due
 is_later t at due is = record { least = least; first = first }
   where
-    parts : (x y : Bool) → (x || y) ≡ false → (x ≡ false) × (y ≡ false)
-    parts true y fails = absurd cc
-    parts false y fails = (refl, fails)
-
     both : (nat_lt t.at at ≡ false) × (((t.at == at) && nat_le t.due due) ≡ false)
-    both = parts (nat_lt t.at at) _ is
+    both = or_parts (nat_lt t.at at) _ is
 
     least : at ≤ t.at
-    least = lt_false t.at at both.0
+    least = ltb-false t.at at both.0
 
     first : t.at ≡ at → due < t.due
     first same = omega (arith, late)
@@ -71,9 +61,6 @@ is_later t at due is = record { least = least; first = first }
         late early = let yes : ((t.at == at) && nat_le t.due due) ≡ true = rw (eq-eqb t.at at same, le-leb t.due due early) refl in true≢false (sym yes ∙ both.1)
 
 -- ---- one core more
-
-none_is_some : (d : ℕ) → None ≡ Some d → ⊥
-none_is_some d is = cc
 
 module _ (free : Free) (prices : ℕ → Price) (dues : ℕ → Option ℕ) (n : ℕ) where
   pub none_due : dues n ≡ None → (found : Option Turn) → IsNext free prices dues n found → IsNext free prices dues (n + 1) found
@@ -96,7 +83,7 @@ module _ (free : Free) (prices : ℕ → Price) (dues : ℕ → Option ℕ) (n :
     where
       before : (k due : ℕ) → k < n + 1 → dues k ≡ Some due → k < n
       before k due below at = elim (cases_eq k n) [
-        | inl e ↦ absurd (none_is_some due (sym none ∙ (ap dues (sym e) ∙ at)))
+        | inl e ↦ absurd (none-some due (sym none ∙ (ap dues (sym e) ∙ at)))
         | inr other ↦ omega (arith, below, other)
       ]
 
@@ -166,7 +153,7 @@ module _ (free : Free) (prices : ℕ → Price) (dues : ℕ → Option ℕ) (n :
           omega (arith, later_one.first old_at, is.0.longest k d below so (same ∙ sym old_at)))
 
       takes_first : IsNext free prices dues n None → IsNext free prices dues (n + 1) (Some t)
-      takes_first none = takes (λ k d below so. absurd (none_is_some d (sym (none k below) ∙ so))) (λ k d below so same. absurd (none_is_some d (sym (none k below) ∙ so)))
+      takes_first none = takes (λ k d below so. absurd (none-some d (sym (none k below) ∙ so))) (λ k d below so same. absurd (none-some d (sym (none k below) ∙ so)))
 
       by_test : (old : Turn) (b : Bool) → is_no_later old t.at t.due ≡ b → IsNext free prices dues n (Some old) → IsNext free prices dues (n + 1) (Some (cond b old t))
       by_test old true is found =
@@ -182,13 +169,9 @@ module _ (free : Free) (prices : ℕ → Price) (dues : ℕ → Option ℕ) (n :
     pub skipped : (found : Option Turn) → may_begin_sooner found free due ≡ false → IsNext free prices dues n found → IsNext free prices dues (n + 1) found
     skipped None fails found = absurd cc
     skipped (Some old) fails found =
-        let no = no_later old (later free.began due) due (not_false _ fails) in
+        let no = no_later old (later free.began due) due (not-false _ fails) in
         let over = begins_over free (prices n) due in
         stays old found (omega (arith, no.least, over)) (λ same. omega (arith, no.first (omega (arith, same, over, no.least))))
-      where
-        not_false : (b : Bool) → not b ≡ false → b ≡ true
-        not_false true is = refl
-        not_false false is = absurd cc
 
 -- ---- the price of a core's turn
 

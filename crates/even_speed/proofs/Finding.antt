@@ -1,9 +1,9 @@
 -- What a search by halves finds.
-use Rattle.std.proofs.Common.{◌≡◌, ◌≢◌, ◌⊎◌, ℕ, ◌+◌, ◌<◌, ◌≤◌, ◌==◌, ◌&&◌, ◌||◌, Bool, true, false, cond, nat_le, nat_lt, List, length, get_or, slice_get, Some, Result, Ok, Err, is_ok, true≢false, refl, sym, ap, subst, ◌∙◌, inl, inr, arith, eq-eqb, eqb-true, ne_eqb, leb-true, le-leb, ltb-true, lt-ltb}
+use Rattle.std.proofs.Common.{◌≡◌, ◌≢◌, ◌⊎◌, ℕ, ◌+◌, ◌<◌, ◌≤◌, ◌==◌, ◌&&◌, Bool, true, false, nat_le, nat_lt, List, length, get_or, slice_get, Some, Result, Ok, Err, is_ok, true≢false, refl, sym, ap, subst, ◌∙◌, inl, inr, arith, eq-eqb, eqb-true, ne_eqb, leb-true, le-leb, ltb-true, lt-ltb}
 use native.Mathlib.Decide.{dec_lt}
 use Rattle.std.proofs.Math.Path.{fun_ext}
-use Rattle.std.proofs.lemmas.Bool.{and_parts, cases_eq, false_from_ne_true, or_right}
-use Rattle.std.proofs.lemmas.Cmp.{nat_cmp_total, on_total, then_total}
+use Rattle.std.proofs.lemmas.Bool.{and_parts, cases_eq, false_from_ne_true, or_right, or_cases}
+use Rattle.std.proofs.lemmas.Cmp.{nat_cmp_total, on_total, then_total, by_ranked, ranked}
 use Rattle.std.proofs.lemmas.List.{get_or_default}
 use Rattle.std.proofs.lemmas.List.Elements.{All-from_get_or}
 use Rattle.std.proofs.lemmas.List.Folds.{Any-from_list_any, list_any_at, list_any_none}
@@ -71,26 +71,9 @@ found_any xs x (Err i) up found = sym (list_any_none (λ a. a == x) xs (All-from
 total : IsTotalOrder pair_order
 total = then_total (on_total (λ (p : ℕ × ℕ). p.0) nat_cmp_total) (on_total (λ (p : ℕ × ℕ). p.1) nat_cmp_total)
 
-by_tests : (t e : Bool) (P : Ordering → Type 0) → (t ≡ true → P Less) → (t ≡ false → e ≡ true → P Equal) → (t ≡ false → e ≡ false → P Greater)
-    → P (cond t Less (cond e Equal Greater))
-by_tests true e P l q g = l refl
-by_tests false true P l q g = q refl refl
-by_tests false false P l q g = g refl refl
-
-unequal : (a b : ℕ) → (a == b) ≡ false → b ≤ a → b < a
-unequal a b is most = elim (cases_eq a b) [
-  | inl e ↦ let same : (a == b) ≡ true = eq-eqb a b e in absurd cc
-  | inr other ↦ omega (arith, most, other)
-]
-
-at_most : (a b : ℕ) → nat_lt a b ≡ false → b ≤ a
-at_most a b fails = elim (dec_lt a b) [
-  | yes less ↦ let is : nat_lt a b ≡ true = lt-ltb a b less in absurd cc
-  | no past ↦ omega (arith, past)
-]
-
 by_numbers : (a b : ℕ) (P : Ordering → Type 0) → (a < b → P Less) → (a ≡ b → P Equal) → (b < a → P Greater) → P (nat_cmp a b)
-by_numbers a b P l q g = by_tests (nat_lt a b) (a == b) P (λ is. l (ltb-true a b is)) (λ no is. q (eqb-true a b is)) (λ no ne. g (unequal a b ne (at_most a b no)))
+by_numbers a b P l q g =
+    by_ranked (a < b) (a ≡ b) (b < a) (nat_cmp a b) (ranked a b (nat_cmp a b) refl) (λ is less. subst P (sym is) (l less)) (λ is same. subst P (sym is) (q same)) (λ is more. subst P (sym is) (g more))
 
 -- not after another
 abbrev IsUpTo : ℕ × ℕ → ℕ × ℕ → Type 0
@@ -114,15 +97,10 @@ in_order xs sorted i j d up below =
 abbrev Before : ℕ → ℕ → ℕ × ℕ → Type 0
 Before piece epoch x = (x.0 < piece) ⊎ ((x.0 ≡ piece) × (x.1 < epoch))
 
-by_both : (t e m : Bool) → (t || (e && m)) ≡ true → (t ≡ true) ⊎ ((e ≡ true) × (m ≡ true))
-by_both true e m is = inl refl
-by_both false true m is = inr (refl, is)
-by_both false false m is = absurd cc
-
 before : (piece epoch : ℕ) (x : ℕ × ℕ) → is_before piece epoch x ≡ true → Before piece epoch x
-before piece epoch x is = elim (by_both (nat_lt x.0 piece) (x.0 == piece) (nat_lt x.1 epoch) is) [
+before piece epoch x is = elim (or_cases (nat_lt x.0 piece) ((x.0 == piece) && nat_lt x.1 epoch) is) [
   | inl less ↦ inl (ltb-true x.0 piece less)
-  | inr both ↦ inr (eqb-true x.0 piece both.0, ltb-true x.1 epoch both.1)
+  | inr same ↦ (let both = and_parts (x.0 == piece) (nat_lt x.1 epoch) same in inr (eqb-true x.0 piece both.0, ltb-true x.1 epoch both.1))
 ]
 
 is_so : (piece epoch : ℕ) (x : ℕ × ℕ) → Before piece epoch x → is_before piece epoch x ≡ true

@@ -1,7 +1,7 @@
 -- What the entries of a turn make of the cores.
 use Rattle.std.proofs.Common.{◌≡◌, ◌≢◌, ℕ, zero, suc, ◌<◌, ◌==◌, ◌||◌, not, nat_lt, Bool, true, false, cond, List, [], ◌∷◌, ◌++◌, Option, Some, None, refl, sym, ap, subst, ◌∙◌, arith, ltb-true, ne_eqb}
 use Rattle.std.proofs.lemmas.Bool.{and_parts, or_parts}
-use Rattle.std.proofs.lemmas.Option.{same_Some}
+use Rattle.std.proofs.lemmas.Option.{same_Some, none-some}
 use Rattle.rv32_image.specs.Image.{LoadedImage}
 use Rattle.spec_history.specs.declared.entry.Entry.{Entry}
 use Rattle.spec_history.specs.declared.entry.What.{What}
@@ -30,16 +30,13 @@ moves_then o m u first later = record {
       (y.0, y.1, λ unhurt. let same = x.2 unhurt in same ∙ y.2 (sym (ap (λ (e : CoreState). e.hurt) same) ∙ unhurt), x.3 ∙ y.3);
 }
 
-none_is : (c : CoreState) → Some c ≡ None → ⊥
-none_is c is = cc
-
 hurt_is : (c d : CoreState) (b : Bool) → record c { hurt = b } ≡ d → b ≡ c.hurt → d ≡ c
 hurt_is c d b is same = sym is ∙ (λ i. record c { hurt = same i })
 
 moves_hurt : (epoch : ℕ) (o : Option CoreState) → Moves o (hurt_at epoch o)
 moves_hurt epoch None = moves_same None None refl
 moves_hurt epoch (Some c) = record {
-  idle = λ none. absurd (none_is _ none);
+  idle = λ none. absurd (none-some _ (sym none));
   runs = λ d at. (
     c,
     refl,

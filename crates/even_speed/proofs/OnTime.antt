@@ -1,5 +1,5 @@
 -- What a turn keeps of the steps that attempts have taken.
-use Rattle.std.proofs.Common.{true≢false, ◌*◌, ◌≡◌, ◌≢◌, ◌⊎◌, ℕ, zero, suc, ◌+◌, ◌-◌, ◌<◌, ◌≤◌, ◌==◌, Bool, true, false, cond, List, [], Option, Some, None, Result, Ok, refl, sym, ap, subst, ◌∙◌, inl, inr, arith, add-one, eq-eqb, eqb-true, ne_eqb}
+use Rattle.std.proofs.Common.{true≢false, ◌*◌, ◌≡◌, ◌≢◌, ◌⊎◌, ℕ, zero, suc, ◌+◌, ◌-◌, ◌<◌, ◌≤◌, ◌==◌, Bool, true, false, cond, List, [], Option, Some, None, Result, Ok, refl, sym, ap, subst, ◌∙◌, inl, inr, arith, add-one, eq-eqb, eqb-true, ne_eqb, add-zero}
 use Rattle.std.proofs.Math.Path.{fun_ext}
 use Rattle.std.proofs.lemmas.Bool.{cases_eq, cases_Bool}
 use Rattle.std.proofs.lemmas.Option.{same_Some}
@@ -408,13 +408,10 @@ module _ {S : Type 0} (costless : Bool) (image : LoadedImage) (cores : ℕ) (s u
   same_going : u ≡ s → (u.end ≡ None) ⊎ (u.homefree ≡ 0)
   same_going same = subst (λ (x : FlatState). (x.end ≡ None) ⊎ (x.homefree ≡ 0)) (sym same) on.going
 
-  none_more : (n : ℕ) → n ≡ n + 0
-  none_more n = omega arith
-
   still_counted : (answer : Answer) → u.homefree ≡ s.homefree → IsSameUseful clock.account (answers answer).account → AreCounted answer u.homefree
   still_counted answer homefree own = record {
-    busy = turned_sum (λ c. c.account.busy) answer 0 (own.0 ∙ none_more _) ∙ (sym (none_more _) ∙ (on.busy ∙ ap (instructions_in_order image) (sym homefree)));
-    spent = λ none. turned_sum (λ c. total c.account.spent) answer 0 (ap total own.1 ∙ none_more _) ∙ (sym (none_more _) ∙ (on.spent none ∙ ap (λ n. n + n) (sym homefree)));
+    busy = turned_sum (λ c. c.account.busy) answer 0 (own.0 ∙ sym (add-zero _)) ∙ (add-zero _ ∙ (on.busy ∙ ap (instructions_in_order image) (sym homefree)));
+    spent = λ none. turned_sum (λ c. total c.account.spent) answer 0 (ap total own.1 ∙ sym (add-zero _)) ∙ (add-zero _ ∙ (on.spent none ∙ ap (λ n. n + n) (sym homefree)));
   }
 
   goes : (hart : HartState) → GoesTo image s u t.core (p.held t.core) (restarts old mid) hart → TurnedOn (Go hart)

@@ -1,6 +1,5 @@
 -- The clock of the one core that there is.
 use Rattle.std.proofs.Common.{◌≡◌, ℕ, ◌+◌, ◌==◌, Bool, true, false, cond, Some, Ok, ◌≤◌, refl, sym, ap, subst, ◌∙◌, arith, eq-eqb}
-use Rattle.std.proofs.lemmas.Bool.Decides.{nat_tests}
 use Rattle.std.proofs.lemmas.Option.{same_Some}
 use Rattle.rv32_exec.specs.declared.sequential.End.{End}
 use Rattle.homefree.specs.declared.answer.Answer.{Answer}
@@ -17,10 +16,10 @@ use Rattle.even_speed.specs.declared.pricing.Free.{Free}
 use Rattle.even_speed.specs.declared.pricing.Price.{Price}
 use Rattle.even_speed.specs.Account.{WastesNone, no_steps, sum_of, total}
 use Rattle.even_speed.specs.Clocks.{IsFirst, account_of, answered, begun, closed, dropped, due_of, dues, first_clock, late, late_clocks, left, paid, woken, woken_by, woken_from}
-use Rattle.even_speed.specs.Pricing.{begins, later, no_price}
+use Rattle.even_speed.specs.Pricing.{begins, no_price}
 use Rattle.even_speed.specs.Even.{clocks_after, executed_by, restarts}
 use Rattle.even_speed.specs.Kept.{IsAloneClock, NeverWaits, NeverWaitsAt}
-use Rattle.even_speed.proofs.Sounding.{account_of-more, account_of-none, free_due}
+use Rattle.even_speed.proofs.Sounding.{account_of-more, account_of-none, free_due, later_of}
 
 pub first_alone : (U : Type 0) → IsAloneClock U 0 first_clock
 first_alone U = record { account = record { lost = refl; dropped = refl; waiting = refl }; held = λ unheld. refl; next = omega arith }
@@ -63,9 +62,6 @@ woken_by_alone U (Over end) at clocks a = a
 woken_by_alone U (Stopped cause) at clocks a = a
 
 -- as its turn begins
-begins_when_due : (now due : ℕ) → now ≤ due → later now due ≡ due
-begins_when_due now due passes = grind (arith, nat_tests)
-
 due_after : (now due : ℕ) (n : Next) → due_of n ≡ Some due → NeverWaitsAt now n → now ≤ due
 due_after now due (Due at) is never = omega (arith, same_Some at due is, never)
 due_after now due (Waits since cause) is never = absurd never
@@ -73,7 +69,7 @@ due_after now due Gone is never = absurd cc
 
 -- a free turn begins when it is due, where it is due after the last one
 free_begins : (free : Free) (p : Price) (due : ℕ) → p ≡ no_price → free.began ≤ due → begins free p due ≡ due
-free_begins free p due none passes = rw none (begins_when_due free.began due passes)
+free_begins free p due none passes = rw none (later_of free.began due passes)
 
 -- so that it isn't late; or it is late in a queue
 late_alone_by : (U : Type 0) (now due at : ℕ) (queues : Bool) (c : Clock) → (U → queues ≡ false → at ≡ due) → IsAloneClock U now c → IsAloneClock U at (late queues due at c)

@@ -1,22 +1,23 @@
 -- What the code keeps of the stores of each core is what the history leads to.
-use Rattle.std.proofs.Common.{◌≡◌, ℕ, ◌==◌, not, Bool, true, false, cond, is_some, nat_lt, List, [], ◌∷◌, ◌++◌, length, take, drop, get_or, All, ◌+◌, ◌<◌, ◌≤◌, Option, Some, None, Result, Ok, Err, OnOk, refl, sym, ap, subst, ◌∙◌, inl, inr, arith, eq-eqb, ne_eqb}
+use Rattle.std.proofs.Common.{◌≡◌, ℕ, ◌==◌, not, true, cond, is_some, nat_lt, List, [], ◌∷◌, ◌++◌, length, take, drop, get_or, All, ◌+◌, ◌<◌, ◌≤◌, Option, Some, None, Result, Ok, Err, OnOk, refl, sym, ap, subst, ◌∙◌, inl, inr, arith, eq-eqb, ne_eqb}
 use Rattle.std.proofs.Math.Path.{fun_ext}
 use Rattle.std.proofs.lemmas.Bool.{cases_eq, and_parts}
 use Rattle.std.proofs.lemmas.List.{drop_all, drop_more, take-append-drop}
 use Rattle.std.proofs.lemmas.List.Elements.{All-cons, All-drop, All-head, All-nil, All-tail}
 use Rattle.std.proofs.Math.Seq.{take-append_seam}
-use Rattle.std.proofs.lemmas.Option.{same_Some}
+use Rattle.std.proofs.lemmas.Option.{same_Some, none-some}
 use Rattle.rv32_image.specs.Image.{IsImage, LoadedImage}
 use Rattle.spec_history.specs.declared.entry.Entry.{Entry}
 use Rattle.spec_history.specs.declared.entry.What.{What}
 use Rattle.spec_history.specs.declared.entry.What.TheVariants.{Start, Load, Store, Hurt, Cancel, Restart, Publish, Commit, Fault}
-use Rattle.spec_history.specs.Effect.{effect, effect_idle, effect_on, hurt_at, idle_at}
+use Rattle.spec_history.specs.Effect.{effect, effect_idle, effect_on, hurt_at}
 use Rattle.spec_history.specs.FlatState.{CoreState, FlatState, first_state}
 use Rattle.spec_history.specs.Machine.{IsInMemory}
 use Rattle.spec_history.specs.Refusal.{is_there, refusal_of}
 use Rattle.spec_history.specs.Replay.{replay, replay_from}
 use Rattle.spec_history.proofs.OneEntry.Legal.{legal_entry, next_in_memory}
 use Rattle.spec_history.proofs.Replay.Replays.{effect-idle, effect-on, legal_by}
+use Rattle.spec_history.proofs.OneEntry.Entries.{still_runs}
 use Rattle.even_speed.specs.Owns.{IsNotable, IsSmall, Owned, none_own, none_owned, own_of, owned_by, owns_after, with_own, with_store}
 
 -- each core that runs an epoch owns what is kept of it
@@ -42,34 +43,20 @@ one_kept cores owns by was x runs same own k c at = elim (cases_eq k by) [
 -- one core leaves
 one_left : (cores : ℕ → Option CoreState) (owns : ℕ → Owned) (by : ℕ) → AreOwn cores owns → AreOwn (λ k. cond (k == by) None (cores k)) owns
 one_left cores owns by own k c at = elim (cases_eq k by) [
-  | inl e ↦ absurd (none_some (sym (ap (λ b. cond b None (cores k)) (eq-eqb k by e)) ∙ at))
+  | inl e ↦ absurd (none-some c (sym (ap (λ b. cond b None (cores k)) (eq-eqb k by e)) ∙ at))
   | inr other ↦ own k c (sym (ap (λ b. cond b None (cores k)) (ne_eqb k by other)) ∙ at)
 ]
-  where
-    none_some : None ≡ Some c → ⊥
-    none_some is = cc
 
 -- an idle core has an entry
 idle_set : (cores : ℕ → Option CoreState) (owns : ℕ → Owned) (by : ℕ) (now : Owned) → cores by ≡ None → AreOwn cores owns → AreOwn cores (with_own owns by now)
 idle_set cores owns by now idle own k c at = elim (cases_eq k by) [
-  | inl e ↦ absurd (none_some (sym idle ∙ (ap cores (sym e) ∙ at)))
+  | inl e ↦ absurd (none-some c (sym idle ∙ (ap cores (sym e) ∙ at)))
   | inr other ↦ rw (ne_eqb k by other) (own k c at)
 ]
-  where
-    none_some : None ≡ Some c → ⊥
-    none_some is = cc
 
 hurt_by : (epoch : ℕ) (o : Option CoreState) (c : CoreState) → hurt_at epoch o ≡ Some c → (was : CoreState) × (o ≡ Some was) × (own_of was ≡ own_of c)
 hurt_by epoch None c at = absurd cc
 hurt_by epoch (Some was) c at = (was, refl, ap own_of (same_Some _ c at))
-
-left_by : (b : Bool) (was c : CoreState) → cond b None (Some was) ≡ Some c → Some was ≡ Some c
-left_by true was c at = absurd cc
-left_by false was c at = at
-
-idle_by : (epoch : ℕ) (o : Option CoreState) (c : CoreState) → idle_at epoch o ≡ Some c → o ≡ Some c
-idle_by epoch None c at = at
-idle_by epoch (Some was) c at = left_by (was.epoch == epoch) was c at
 
 idle_owned : (image : LoadedImage) (s : FlatState) (owns : ℕ → Owned) (by : ℕ) (what : What) → s.cores by ≡ None → AreOwn s.cores owns
     → AreOwn (effect_idle image s by what).cores (owned_by owns by what)
@@ -89,7 +76,7 @@ on_owned image s owns by c (Start epoch) runs never own = absurd (never epoch re
 on_owned image s owns by c (Load address width value) runs never own = one_kept s.cores owns by c _ runs refl own
 on_owned image s owns by c (Store address width value) runs never own = one_set s.cores owns by _ _ (ap (with_store address width value) (own by c runs)) own
 on_owned image s owns by c (Hurt epoch) runs never own = λ k d at. let was = hurt_by epoch (s.cores k) d at in own k was.0 was.1 ∙ was.2
-on_owned image s owns by c (Cancel epoch) runs never own = λ k d at. own k d (idle_by epoch (s.cores k) d at)
+on_owned image s owns by c (Cancel epoch) runs never own = λ k d at. own k d (still_runs epoch (s.cores k) d at)
 on_owned image s owns by c Restart runs never own = one_set s.cores owns by _ none_owned refl own
 on_owned image s owns by c Publish runs never own = one_set s.cores owns by _ _ refl own
 on_owned image s owns by c Commit runs never own = one_left s.cores owns by own
@@ -141,10 +128,7 @@ owned_from image count (e ∷ entries) owns s last replays own =
 
 pub owned_all : (image : LoadedImage) (count : ℕ) (entries : List Entry) (s : FlatState) → replay image count entries ≡ Some s → AreOwn s.cores (owns_after none_own entries)
 unfolding replay
-owned_all image count entries s replays = owned_from image count entries none_own (first_state image) s replays (λ k c at. absurd (none_some c at))
-  where
-    none_some : (c : CoreState) → None ≡ Some c → ⊥
-    none_some c is = cc
+owned_all image count entries s replays = owned_from image count entries none_own (first_state image) s replays (λ k c at. absurd (none-some c at))
 
 -- ---- stores lie in memory
 

@@ -3,12 +3,12 @@ use Rattle.std.proofs.Common.{◌≡◌, ℕ, ◌==◌, ◌&&◌, ◌||◌, not,
 use Rattle.std.specs.List.{list_any}
 use Rattle.std.proofs.Math.Dec.{eqb-suc-zero}
 use Rattle.std.proofs.Math.Path.{fun_ext}
-use Rattle.std.proofs.lemmas.List.{drop_all, drop_more, get_or-replicate, get_or-set_other, get_or-set_same, length-drop, get_or_past, take-append-drop}
+use Rattle.std.proofs.lemmas.List.{drop_all, drop_more, get_or-replicate, get_or-set_other, get_or-set_same, length-drop, get_or_past, take-append-drop, nil_from_length}
 use Rattle.std.proofs.lemmas.List.Elements.{All-drop, All-head, All-tail, All-weaker}
 use Rattle.std.proofs.Math.Seq.{take-append_seam, take-length}
 use Rattle.std.proofs.Math.ListN.{replicate, length-replicate}
 use native.Mathlib.Decide.{dec_lt}
-use Rattle.std.proofs.lemmas.Bool.{and_parts, cases_eq}
+use Rattle.std.proofs.lemmas.Bool.{and_parts, cases_eq, and_right}
 use Rattle.std.proofs.lemmas.Option.{same_Some}
 use Rattle.rv32_image.specs.Image.{LoadedImage}
 use Rattle.rv32_exec.specs.declared.stop.Stop.{Stop}
@@ -114,18 +114,14 @@ epoch_same : (o : Option CoreState) → epoch_kept (option_map seat_of o) ≡ ep
 epoch_same None = refl
 epoch_same (Some c) = refl
 
-and_no : (b : Bool) → (b && false) ≡ false
-and_no true = refl
-and_no false = refl
-
 none_stored : (holds : Holding) → ((d piece : ℕ) → holds.stores d piece ≡ false) → (homefree epoch piece : ℕ) → is_stored holds homefree epoch piece ≡ false
 none_stored holds none homefree epoch piece =
-    all_fail epoch (λ d. nat_le homefree d && holds.stores d piece) (λ d below. ap (λ b. nat_le homefree d && b) (none d piece) ∙ and_no (nat_le homefree d))
+    all_fail epoch (λ d. nat_le homefree d && holds.stores d piece) (λ d below. ap (λ b. nat_le homefree d && b) (none d piece) ∙ and_right (nat_le homefree d) false refl)
 
 none_read : (holds : Holding) → ((d piece : ℕ) → holds.stores d piece ≡ false) → (homefree epoch : ℕ) (own : ℕ → Option ℕ) (address width : ℕ) → reads_stored holds homefree epoch own address width ≡ false
 none_read holds none homefree epoch own address width =
     all_fail width (λ i. is_none (own (address + i)) && is_stored holds homefree epoch (holds.piece (address + i)))
-    (λ i below. ap (λ b. is_none (own (address + i)) && b) (none_stored holds none homefree epoch (holds.piece (address + i))) ∙ and_no (is_none (own (address + i))))
+    (λ i below. ap (λ b. is_none (own (address + i)) && b) (none_stored holds none homefree epoch (holds.piece (address + i))) ∙ and_right (is_none (own (address + i))) false refl)
 
 -- where no load waits for stores, it doesn't matter what a core owns
 waits_same : (holds : Holding) → ((d piece : ℕ) → holds.stores d piece ≡ false) → (homefree epoch pc : ℕ) (own own' : ℕ → Option ℕ) (at : Stop) → waits_by holds homefree epoch own pc at ≡ waits_by holds homefree epoch own' pc at
@@ -184,7 +180,7 @@ none_held : (holds : Holding) → ((pc : ℕ) → holds.places pc ≡ false) →
 none_held holds places none image homefree None own hand = refl
 none_held holds places none image homefree (Some epoch) own None = refl
 none_held holds places none image homefree (Some epoch) own (Some hart) =
-    ap (λ b. not (epoch == homefree) && b) (none_waiting holds places none homefree epoch (arrival_of image hart).now.pc own (arrival_of image hart).at) ∙ and_no (not (epoch == homefree))
+    ap (λ b. not (epoch == homefree) && b) (none_waiting holds places none homefree epoch (arrival_of image hart).now.pc own (arrival_of image hart).at) ∙ and_right (not (epoch == homefree)) false refl
 
 pub no_cores_held : (holds : Holding) → ((pc : ℕ) → holds.places pc ≡ false) → ((d piece : ℕ) → holds.stores d piece ≡ false) → (image : LoadedImage) (state : Option FlatState) (hands : ℕ → Option HartState) (k : ℕ)
     → are_held holds image state hands k ≡ false
@@ -196,11 +192,7 @@ no_cores_held holds places none image (Some s) hands k = none_held holds places 
 none_in : (v : HoldsView) → holds_none v ≡ true → HoldsNone v
 none_in v is =
     let both = and_parts (length v.places == 0) (length v.stores == 0) is in
-    record { places = empty v.places (eqb-true (length v.places) 0 both.0); stores = empty v.stores (eqb-true (length v.stores) 0 both.1) }
-  where
-    empty : {A : Type 0} (xs : List A) → length xs ≡ 0 → xs ≡ []
-    empty [] is = refl
-    empty (x ∷ xs) is = absurd cc
+    record { places = nil_from_length v.places (eqb-true (length v.places) 0 both.0); stores = nil_from_length v.stores (eqb-true (length v.stores) 0 both.1) }
 
 pub held_in_none : {S : Type 0} (b : BookView S) (v : HoldsView) (hands : ℕ → Option HartState) (k : ℕ) → holds_none v ≡ true → held_in (holding_of v) b hands k ≡ false
 held_in_none b v hands k is =

@@ -1,5 +1,6 @@
 -- What a turn, a wake and the end of the run keep of a clock.
 use Rattle.std.proofs.Common.{◌≡◌, ℕ, ◌+◌, ◌-◌, ◌*◌, ◌<◌, ◌≤◌, ◌^◌, Bool, true, false, cond, ◌==◌, ◌||◌, List, length, Option, Some, None, refl, ap, subst, sym, ◌∙◌, arith, add-one, eq-eqb, eqb-true}
+use Rattle.std.proofs.lemmas.Bool.{or_right}
 use Rattle.std.proofs.lemmas.Bool.Decides.{nat_tests}
 use Rattle.std.proofs.lemmas.Option.{same_Some}
 use Rattle.homefree.specs.declared.answer.Answer.{Answer}
@@ -228,12 +229,8 @@ held_bound bus at messages bound false is one two = rw is (omega (arith, later_b
 order_least : (free : Free) (at : ℕ) (p : Price) (answer : Answer) → (free.order ≤ (free_after free at p answer).order) × (leaves answer ≡ true → at + total p.spent ≤ (free_after free at p answer).order)
 order_least free at p answer = (needed_least (p.in_order || leaves answer) (at + total p.spent) free.order, λ left. over left)
   where
-    or_true : (b : Bool) → (b || true) ≡ true
-    or_true true = refl
-    or_true false = refl
-
     over : leaves answer ≡ true → at + total p.spent ≤ if_needed (p.in_order || leaves answer) (at + total p.spent) free.order
-    over left = rw (left, or_true p.in_order) ((later_least (at + total p.spent) free.order).0)
+    over left = rw (left, or_right p.in_order true refl) ((later_least (at + total p.spent) free.order).0)
 
 -- the last turn or commit goes on no longer before a turn than after it
 last_grows : (free : Free) (at : ℕ) (p : Price) (answer : Answer) → free.began ≤ at → last_in free ≤ last_in (free_after free at p answer)
