@@ -21,6 +21,7 @@ use Rattle.dependences.specs.Conflict.{Conflict, PathReads, memory_before, path_
 use Rattle.dependences.proofs.Paths.{IsAt, either, past_load, past_store, path_stores, reads_there}
 use Rattle.dependences.proofs.Windows.{IsInWindow}
 use Rattle.dependences.proofs.Starting.{IsOrderly, OnPath, beside, core_reached, cores_with, unwritten, whatever_shown}
+use Rattle.dependences.proofs.SmallFacts.{seen_by}
 
 -- ---- straight cores
 
@@ -77,10 +78,6 @@ committed_by image cores s by c a kept window orderly free at speculative reads 
     ∙ unwritten image cores s by c a kept window orderly free at reads)
 committed_by image cores s by c a kept window orderly free at speculative reads (Some byte) is =
     absurd (free (shown_conflicts image cores s by c a byte kept window orderly at speculative reads is))
-
-seen_by : (own : Option ℕ) (here there : ℕ) → (own ≡ None → here ≡ there) → unwrap_or own here ≡ unwrap_or own there
-seen_by None here there same = same refl
-seen_by (Some byte) here there same = refl
 
 module _ (image : LoadedImage) (cores : ℕ) (s : FlatState) (by : ℕ) (c : CoreState) (kept : IsKept image cores s) (window : IsInWindow cores s)
     (orderly : IsOrderly image cores s) (free : Conflict image cores → ⊥) (runs : s.cores by ≡ Some c) where

@@ -8,17 +8,17 @@ use Rattle.memory_bytes.specs.Maps.{joined, nothing, over, stored}
 use Rattle.memory_bytes.proofs.Bytes.{number_at_same, over-joined, stored_within}
 use Rattle.rv32_image.specs.Image.{LoadedImage}
 use Rattle.rv32_exec.specs.Hart.{HartState, start_of, stepped}
-use Rattle.rv32_exec.specs.Execute.{Effect, Executes, Stops, IsStopOf, IsStore, after_load, hart_effect}
+use Rattle.rv32_exec.specs.Execute.{Effect, Executes, Stops, IsStore, after_load, hart_effect}
 use Rattle.rv32_exec.specs.Sequential.{Progress, Runs, Ends, Faults, after_steps, after_stop, execute, go_on}
 use Rattle.rv32_exec.specs.Laws.{HasStopped}
-use Rattle.rv32_exec.proofs.Accesses.{stop_of_event}
-use Rattle.rv32_exec.proofs.Runs.{next_event-stops}
+use Rattle.rv32_exec.proofs.Accesses.{stop_of_effect}
 use Rattle.rv32_exec.proofs.LawsOfRuns.{after_steps-+, one_step}
 use Rattle.spec_history.specs.Laws.{Holds}
 use Rattle.spec_history.proofs.OneEntry.Keeping.{start_runs}
 use Rattle.spec_history.proofs.OneEntry.Accesses.{holds_stored}
 use Rattle.dependences.specs.Paths.{ReadsOutside, Stores, StoresAt}
 use Rattle.dependences.proofs.Paths.{covered, either, neither, same_store}
+use Rattle.dependences.proofs.SmallFacts.{no_store_at_load, seen_by}
 
 -- ---- one instruction
 
@@ -45,22 +45,10 @@ one_instruction : (image : LoadedImage) (n : ℕ) (from h : HartState) (memory a
     → after_steps image (n + 1) from memory ≡ execute image h after
 one_instruction image n from h memory after is = one_more image n from memory (Runs h after) is ∙ (one_step image 0 h after ∙ none_left image (execute image h after))
 
--- what is known of the stop of a hart
-stop_known : (image : LoadedImage) (h : HartState) (at : Stop) → hart_effect image h ≡ Stops at → IsStopOf image h at
-stop_known image h at is = rw (next_event-stops image h at is) at (stop_of_event image h)
-
 no_run_here : (e : Effect) (after : HartState) (at : Stop) → e ≡ Executes after → e ≡ Stops at → ⊥
 no_run_here e after at is is' = cc
 
-no_store_at_load : (e : Effect) (address width : ℕ) (signed : Bool) (rd address' width' value' : ℕ) → e ≡ Stops (stop.Load address width signed rd)
-    → e ≡ Stops (stop.Store address' width' value') → ⊥
-no_store_at_load e address width signed rd address' width' value' is is' = cc
-
 -- ---- both runs
-
-seen_by : (own : Option ℕ) (here there : ℕ) → (own ≡ None → here ≡ there) → unwrap_or own here ≡ unwrap_or own there
-seen_by None here there same = same refl
-seen_by (Some byte) here there same = refl
 
 -- both have come to this hart, and have stored the same bytes
 pub record BothRun (image : LoadedImage) (epoch : ℕ) (first second : List ℕ) (n : ℕ) (h : HartState) (own : ℕ → Option ℕ) : Type 0 where
@@ -141,7 +129,7 @@ module _ (image : LoadedImage) (epoch : ℕ) (first second : List ℕ) (n : ℕ)
       → Holds image (over own (λ a. slice_index memory a)) after
       → Holds image (over (joined (stored address width value) own) (λ a. slice_index memory a)) (with_number after address width value)
   store_held memory after address width value is holds =
-      let store : IsStore image h address width value = stop_known image h _ is in
+      let store : IsStore image h address width value = stop_of_effect image h _ is in
       let later = holds_stored image _ address width value after store.access.within holds in record {
         long = later.long;
         bytes = λ a. over-joined (stored address width value) own (λ b. slice_index memory b) a ∙ later.bytes a;

@@ -1,6 +1,6 @@
 -- One epoch and the buffers of the caches: the lines that it touches, and in which it stores.
 use Rattle.std.proofs.Common.{◌≡◌, ◌≢◌, ◌⊎◌, ℕ, ◌+◌, ◌-◌, ◌==◌, ◌&&◌, ◌<◌, ◌≤◌, ◌%◌, ◌^◌, not, Bool, true, false, List, All, length, get_or, slice_index, Option, Some, None, refl, sym, ap, subst, ◌∙◌, inl, inr, true≢false, arith, eq-eqb, eqb-true}
-use Rattle.std.proofs.lemmas.Bool.{and_parts, cases_Bool, cases_eq, cases_lt}
+use Rattle.std.proofs.lemmas.Bool.{and_parts, cases_Bool, cases_eq, cases_lt, and_right}
 use Rattle.std.proofs.lemmas.Bool.Decides.{nat_tests}
 use Rattle.std.proofs.lemmas.Option.{slice_get-get_or}
 use Rattle.std.proofs.Math.Nat.{div-le_self}
@@ -36,6 +36,7 @@ use Rattle.dependences.proofs.Lining.{among, last_low}
 use Rattle.dependences.proofs.Words.{marked_word, some_wide}
 use Rattle.dependences.proofs.Counting.{count_past, falling_few}
 use Rattle.dependences.proofs.Sharing.{count_few, shares_so, shares_stored, shares_touched, store_again, store_counts_long, store_here, store_long, store_others, store_two, touch_again, touch_before_long, touch_counts_long, touch_last, touch_last_long, touch_others, touch_stored}
+use Rattle.dependences.proofs.SmallFacts.{either_some}
 
 -- what is read of a list
 pub read_other : (xs : List ℕ) (i r n : ℕ) → i < length xs → r ≡ get_or xs i r → r ≢ n → slice_index xs i ≢ n
@@ -393,10 +394,6 @@ module _ (image : LoadedImage) (cores epoch : ℕ) (memory now : List ℕ) (t : 
       | inr none ↦ store_marks.others l none ∙ is
     ]
 
-    either_some : (first second : Option ℕ) (byte : ℕ) → second ≡ Some byte → (b : ℕ) × (first_of first second ≡ Some b)
-    either_some None second byte is = (byte, is)
-    either_some (Some b) second byte is = (b, refl)
-
     noted_by : (value l : ℕ) → slice_index stored_now.stored l ≡ epoch + 1
         → (a : ℕ) × (byte : ℕ) × (line_number image a ≡ l) × (joined (stored address width value) x.stored a ≡ Some byte)
     noted_by value l is = elim (among image l address width) [
@@ -467,13 +464,9 @@ few_others lines P n line bound others p x falling each =
     let past = count_past bound lines (other_line x.which line) (λ k past. past_none k past (cases_Bool (x.which k))) in
     let fewer = one_fewer lines P n line p x in omega (arith, few, past, fewer)
   where
-    out : (b c : Bool) → c ≡ false → (b && c) ≡ false
-    out true c is = is
-    out false c is = refl
-
     past_none : (k : ℕ) → lines ≤ k → (x.which k ≡ true) ⊎ (x.which k ≡ false) → other_line x.which line k ≡ false
     past_none k past (inl is) = let low = (x.all k (x.some k is)).0 in absurd (omega (arith, past, low))
-    past_none k past (inr is) = out (not (k == line)) (x.which k) is
+    past_none k past (inr is) = and_right (not (k == line)) (x.which k) is
 
 -- ---- the end
 

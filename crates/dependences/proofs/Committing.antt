@@ -1,6 +1,7 @@
 -- What a legal publishing, commit or cancellation keeps.
 use Rattle.std.proofs.Common.{◌≡◌, ◌≢◌, ◌⊎◌, ℕ, ◌+◌, ◌<◌, ◌≤◌, true, false, cond, slice_index, Option, Some, None, unwrap_or, refl, sym, ap, subst, ◌∙◌, inl, inr, true≢false, arith, ne_eqb}
 use Rattle.std.proofs.lemmas.Bool.{cases_Bool, cases_eq}
+use Rattle.std.proofs.lemmas.Option.{none-some}
 use Rattle.rv32_image.specs.Image.{LoadedImage}
 use Rattle.memory_bytes.specs.Maps.{nothing, over}
 use Rattle.spec_history.specs.declared.entry.What.TheVariants.{Cancel, Publish, Commit}
@@ -84,9 +85,6 @@ up_to_next P h before next d most = elim (cases_eq d (h + 1)) [
   | inr other ↦ before d (omega (arith, most, other))
 ]
 
-some_core : (core : CoreState) → None ≡ Some core → ⊥
-some_core core is = cc
-
 pub commit_orderly : (image : LoadedImage) (cores : ℕ) (s : FlatState) (by : ℕ) (c : CoreState) → IsKept image cores s → IsOrderly image cores s → s.cores by ≡ Some c
     → c.epoch ≡ s.homefree → Going image cores (effect_on image s by c Commit) → IsOrderly image cores (effect_on image s by c Commit)
 commit_orderly image cores s by c kept orderly at homefree going =
@@ -101,7 +99,7 @@ commit_orderly image cores s by c kept orderly at homefree going =
           (now_by image cores s by c a kept orderly at homefree (now.same a) (c.own a) (orderly.shown a) refl refl) (orderly.written n low a))
           (inl refl) d most;
       core = λ k d at_k. elim (at_core s.cores by None k d at_k) [
-        | inl same ↦ absurd (some_core d same.1)
+        | inl same ↦ absurd (none-some d same.1)
         | inr other ↦ whatever_shown image cores orderly.shown nothing d (others_not image cores s by c kept at homefree k d other.0 other.1) (orderly.core k d other.1)
       ];
     }

@@ -1,3 +1,5 @@
+-- Small facts that several files use.
+mod SmallFacts
 -- An epoch on its path, and over two memories.
 pub mod Paths
 pub mod Alike

@@ -20,6 +20,7 @@ use Rattle.dependences.specs.KeptLines.{AreLines, AreLinesKept, AreStored, IsLas
 use Rattle.dependences.proofs.Paths.{IsAt, at_start, covered, either, load_after, neither, past_load, past_store, path_stores, reads_there, start_after, store_after}
 use Rattle.dependences.proofs.Following.{all_loaded, all_stored, unmarked}
 use Rattle.dependences.proofs.Outside.{OnPath, read_by_load, read_by_store, seen_now}
+use Rattle.dependences.proofs.SmallFacts.{either_some}
 
 -- ---- who stored in a line last
 
@@ -205,10 +206,6 @@ module _ (image : LoadedImage) (cores epoch : ℕ) (memory now : List ℕ) (s : 
     | inr none ↦ are.lines.others (line_number image a) none ∙ x.all a byte before
   ]
 
-  joined_some : (first second : Option ℕ) (byte : ℕ) → second ≡ Some byte → (b : ℕ) × (first_of first second ≡ Some b)
-  joined_some None second byte is = (byte, is)
-  joined_some (Some b) second byte is = (b, refl)
-
   noted_by : (s' : Lines) (address width value line : ℕ) → AreStored image s s' epoch address width → slice_index s'.two.last line ≡ epoch + 1
       → (a : ℕ) × (byte : ℕ) × (line_number image a ≡ line) × (joined (stored address width value) x.stored a ≡ Some byte)
   noted_by s' address width value line are is = elim (among image line address width) [
@@ -217,7 +214,7 @@ module _ (image : LoadedImage) (cores epoch : ℕ) (memory now : List ℕ) (s : 
         (address + one.0, _, sym one.2, ap (λ o. first_of o (x.stored (address + one.0))) (stored_within address width value (address + one.0) (omega arith) (omega (arith, low)))))
     | inr none ↦
         (let before = x.noted line (sym (are.lines.others line none) ∙ is) in
-        let now = joined_some (stored address width value before.0) (x.stored before.0) before.1 before.3 in (before.0, now.0, before.2, now.1))
+        let now = either_some (stored address width value before.0) (x.stored before.0) before.1 before.3 in (before.0, now.0, before.2, now.1))
   ]
 
   pub lines_store : (s' : Lines) (address width value : ℕ) → (next_event image h).at ≡ stop.Store address width value → AreStored image s s' epoch address width

@@ -2,7 +2,7 @@
 use Rattle.std.proofs.Common.{◌≡◌, ◌≢◌, ◌⊎◌, ℕ, zero, suc, ◌+◌, ◌<◌, ◌==◌, ◌&&◌, not, nat_le, nat_lt, Bool, true, false, cond, is_some, List, [], ◌∷◌, length, All, Option, Some, None, unwrap_or, refl, sym, ap, ◌∙◌, inl, inr, true≢false, arith, eq-eqb, leb-true}
 use Rattle.std.proofs.lemmas.Bool.{and_parts, cases_Bool}
 use Rattle.rv32_image.specs.Image.{LoadedImage}
-use Rattle.memory_bytes.specs.Bytes.{IsWidth}
+use Rattle.rv32_image.proofs.SmallFacts.{value_of}
 use Rattle.memory_bytes.specs.Maps.{over}
 use Rattle.rv32_exec.specs.declared.stop.Stop.TheVariants as stop
 use Rattle.rv32_exec.specs.Execute.{IsAccess, IsStore}
@@ -25,12 +25,9 @@ use Rattle.dependences.proofs.Paths.{IsAt, covered, loads_there, stores_there}
 use Rattle.dependences.proofs.Windows.{IsInWindow}
 use Rattle.dependences.proofs.Starting.{IsOrderly, beside, core_reached}
 use Rattle.dependences.proofs.Committing.{own_stored}
+use Rattle.dependences.proofs.Words.{some_wide}
 
 -- ---- the kinds
-
-some_of : {A : Type 0} (o : Option A) → is_some o ≡ true → (x : A) × (o ≡ Some x)
-some_of None is = absurd cc
-some_of (Some x) is = (x, refl)
 
 written_if : (o : Option ℕ) (here : ℕ) → not (unwrap_or o here == here) ≡ true → is_some o ≡ true
 written_if None here is = absurd (true≢false (sym is ∙ ap not (eq-eqb here here refl)))
@@ -117,11 +114,6 @@ Acts image s c what = Unit {0}
 
 -- ---- two epochs that meet
 
-some_width : (width : ℕ) → IsWidth width → 0 < width
-some_width width (inl e) = omega (arith, e)
-some_width width (inr (inl e)) = omega (arith, e)
-some_width width (inr (inr e)) = omega (arith, e)
-
 -- a byte of a line
 line_byte : (image : LoadedImage) (line : ℕ) (test : ℕ → Bool) → line_has image line test ≡ true → (a : ℕ) × (line_number image a ≡ line) × (test a ≡ true)
 line_byte image line test is =
@@ -145,7 +137,7 @@ module _ (image : LoadedImage) (cores : ℕ) (s : FlatState) (going : Going imag
 
   own_path : (a : ℕ) → is_some (own_bytes (s.cores by) a) ≡ true → PathStores image cores c.epoch a
   own_path a is =
-      let byte = some_of (own_bytes (s.cores by) a) is in
+      let byte = value_of (own_bytes (s.cores by) a) is in
       own_stored image cores s by c a byte.0 going.kept orderly causer (sym (ap (λ o. own_bytes o a) causer) ∙ byte.1)
 
   -- what the cause writes, the path of its epoch stores
@@ -153,7 +145,7 @@ module _ (image : LoadedImage) (cores : ℕ) (s : FlatState) (going : Going imag
   writes_path (Start epoch) acts a is = absurd cc
   writes_path (Load address width value) acts a is = absurd cc
   writes_path (Store address width value) acts a is =
-      let byte = some_of (written (s.cores by) (Store address width value) a) is in
+      let byte = value_of (written (s.cores by) (Store address width value) a) is in
       let within = covered address width value a byte.0 byte.1 in
       let at = causer_at in record {
         step = (next_event image c.hart).now.done;
@@ -169,12 +161,12 @@ module _ (image : LoadedImage) (cores : ℕ) (s : FlatState) (going : Going imag
   -- what the victim has read from outside, its path reads
   pub reads_path : (a : ℕ) → is_some (read_bytes (s.cores k) a) ≡ true → PathReads image cores v.epoch a
   reads_path a is =
-      let byte = some_of (read_bytes (s.cores k) a) is in
+      let byte = value_of (read_bytes (s.cores k) a) is in
       (orderly.core k v victim).reads a byte.0 (sym (ap (λ o. read_bytes o a) victim) ∙ byte.1)
 
   victim_stores : (a : ℕ) → is_some (own_bytes (s.cores k) a) ≡ true → PathStores image cores v.epoch a
   victim_stores a is =
-      let byte = some_of (own_bytes (s.cores k) a) is in
+      let byte = value_of (own_bytes (s.cores k) a) is in
       own_stored image cores s k v a byte.0 going.kept orderly victim (sym (ap (λ o. own_bytes o a) victim) ∙ byte.1)
 
   -- a cause that commits bytes is of the homefree epoch
@@ -313,7 +305,7 @@ module _ (image : LoadedImage) (cores : ℕ) (s : FlatState) (going : Going imag
       let parts = and_parts (nat_lt address image.size) (is_full_at image (meeting s by (Load address width value) k) (line_number image address)) is in
       let at = causer_at image cores s going window orderly by k c v causer victim before in
       let access : IsAccess image (next_event image c.hart).now address width = rw acts.2 at (stop_of_event image c.hart) in
-      let wide = some_width width access.wide in
+      let wide = some_wide width access.wide in
       full_overflow (Load address width value) address (record {
         step = (next_event image c.hart).now.done;
         there = inl (loads_there image c.epoch (path_memory image cores c.epoch) c.hart at.0 at.1 address width acts.0 acts.1 address acts.2 (omega arith) (omega (arith, wide)));
@@ -322,7 +314,7 @@ module _ (image : LoadedImage) (cores : ℕ) (s : FlatState) (going : Going imag
       let parts = and_parts (nat_lt address image.size) (is_full_at image (meeting s by (Store address width value) k) (line_number image address)) is in
       let at = causer_at image cores s going window orderly by k c v causer victim before in
       let store : IsStore image (next_event image c.hart).now address width value = rw acts at (stop_of_event image c.hart) in
-      let wide = some_width width store.access.wide in
+      let wide = some_wide width store.access.wide in
       full_overflow (Store address width value) address (record {
         step = (next_event image c.hart).now.done;
         there = inr (stores_there image c.epoch (path_memory image cores c.epoch) c.hart at.0 at.1 address width value address acts (omega arith) (omega (arith, wide)));

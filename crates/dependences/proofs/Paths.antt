@@ -20,6 +20,7 @@ use Rattle.spec_history.proofs.OneEntry.Progress.{comes_to_event, comes_past_acc
 use Rattle.spec_history.proofs.OneEntry.Keeping.{start_runs}
 use Rattle.spec_history.proofs.OneEntry.Accesses.{load_goes_on, load_counts, store_goes_on, store_within, holds_stored}
 use Rattle.dependences.specs.Paths.{LoadsAt, ReadsOutside, Stores, StoresAt}
+use Rattle.dependences.proofs.SmallFacts.{no_store_at_load}
 
 -- ---- the next event
 
@@ -200,10 +201,6 @@ pub now_step : (image : LoadedImage) (epoch : ℕ) (memory : List ℕ) (h : Hart
     → (reads_there image epoch memory h own at address width signed rd a is from below none).step < (next_event image h).now.done + 1
 unfolding reads_there
 now_step image epoch memory h own at address width signed rd a is from below none = omega arith
-
-no_store_at_load : (e : Effect) (address width : ℕ) (signed : Bool) (rd address' width' value' : ℕ) → e ≡ Stops (stop.Load address width signed rd)
-    → e ≡ Stops (stop.Store address' width' value') → ⊥
-no_store_at_load e address width signed rd address' width' value' is is' = cc
 
 -- past a load nothing more is stored
 past_load_none : (image : LoadedImage) (epoch : ℕ) (memory : List ℕ) (h : HartState) (own : ℕ → Option ℕ) → IsAt image epoch memory h own

@@ -1,18 +1,12 @@
 -- Lines that epochs share, counted as they run: what a touch and a store change.
 use Rattle.std.proofs.Common.{◌≡◌, ◌≢◌, ◌⊎◌, ℕ, zero, suc, ◌+◌, ◌-◌, ◌==◌, ◌&&◌, ◌||◌, ◌<◌, ◌≤◌, not, nat_lt, Bool, true, false, cond, length, set, slice_index, refl, sym, ap, subst, ◌∙◌, inl, inr, true≢false, arith, add-one, eq-eqb, eqb-true, ltb-true, lt-ltb, get_or-set_same, get_or-set_other, length-set}
-use Rattle.std.proofs.lemmas.Bool.{and_parts, both_ways, cases_Bool, cases_eq, cases_lt}
+use Rattle.std.proofs.lemmas.Bool.{and_parts, both_ways, cases_Bool, cases_eq, cases_lt, le-ltb, ne_eqb, not-true}
 use Rattle.dependences.specs.Conflict.{first_beside}
 use Rattle.dependences.specs.KeptLines.{IsLastOf, followed}
 use Rattle.dependences.specs.KeptTouches.{AreShares, AreSoMany, IsCount, IsEarly, IsInside, IsNear, IsSharedLine, Touched, after_store, after_touch, counted, is_shared_now, with_store, with_toucher}
 use Rattle.dependences.proofs.Windows.{count_more, count_most}
 use Rattle.dependences.proofs.Lining.{last_low, none_from, some_from}
 use Rattle.dependences.proofs.Counting.{count_none}
-
-not_less : (a b : ℕ) → b ≤ a → nat_lt a b ≡ false
-not_less a b most = elim (cases_Bool (nat_lt a b)) [
-  | inl less ↦ (let low = ltb-true a b less in absurd (omega (arith, most, low)))
-  | inr out ↦ out
-]
 
 -- ---- the last of some
 
@@ -55,23 +49,17 @@ line_more lines line P Q n within none here to from x = record {
   which = λ k. (k == line) || x.which k;
   some = λ k is. elim (cases_eq k line) [
     | inl e ↦ subst Q (sym e) here
-    | inr other ↦ to k (x.some k (sym (ap (λ b. b || x.which k) (differs k line other)) ∙ is))
+    | inr other ↦ to k (x.some k (sym (ap (λ b. b || x.which k) (ne_eqb k line other)) ∙ is))
   ];
   all = λ k q. elim (cases_eq k line) [
     | inl e ↦ (omega (arith, within, e), ap (λ b. b || x.which k) (eq-eqb k line e))
-    | inr other ↦ (let was = x.all k (from k other q) in (was.0, ap (λ b. b || x.which k) (differs k line other) ∙ was.1))
+    | inr other ↦ (let was = x.all k (from k other q) in (was.0, ap (λ b. b || x.which k) (ne_eqb k line other) ∙ was.1))
   ];
   count =
-      (let more = count_more lines line x.which (λ k. (k == line) || x.which k) within (λ k other. sym (ap (λ b. b || x.which k) (differs k line other))) fresh (ap (λ b. b || x.which line) (eq-eqb line line refl)) in
+      (let more = count_more lines line x.which (λ k. (k == line) || x.which k) within (λ k other. sym (ap (λ b. b || x.which k) (ne_eqb k line other))) fresh (ap (λ b. b || x.which line) (eq-eqb line line refl)) in
       let count = x.count in omega (arith, more, count));
 }
   where
-    differs : (k l : ℕ) → k ≢ l → (k == l) ≡ false
-    differs k l other = elim (cases_Bool (k == l)) [
-      | inl is ↦ absurd (other (eqb-true k l is))
-      | inr is ↦ is
-    ]
-
     fresh : x.which line ≡ false
     fresh = elim (cases_Bool (x.which line)) [
       | inl is ↦ absurd (none (x.some line is))
@@ -342,7 +330,7 @@ module _ (lines cores limit e : ℕ) (T S T' : ℕ → ℕ → Type 0) (t : Touc
                   d_is,
                   lt-ltb (first_beside cores e) (slice_index t.two.last line) (omega (arith, from, is)),
                   eq-eqb (slice_index t.stored line) (slice_index t.two.last line) (stored ∙ is),
-                  not_less (first_beside cores d) (slice_index t.two.before line) most,
+                  le-ltb (first_beside cores d) (slice_index t.two.before line) most,
                   lt-ltb 0 (slice_index t.counts d) some,
                 ) refl
 
@@ -365,13 +353,9 @@ module _ (lines cores limit e : ℕ) (T S T' : ℕ → ℕ → Type 0) (t : Touc
           let d_is : slice_index t.two.last line - 1 ≡ d = omega (arith, is) in (
             one.0,
             two.0,
-            subst (λ n. nat_lt (first_beside cores n) (slice_index t.two.before line) ≡ false) d_is (is_false _ three.0),
+            subst (λ n. nat_lt (first_beside cores n) (slice_index t.two.before line) ≡ false) d_is (not-true _ three.0),
             subst (λ n. nat_lt 0 (slice_index t.counts n) ≡ true) d_is three.1,
           )
-        where
-          is_false : (b : Bool) → not b ≡ true → b ≡ false
-          is_false true is = absurd cc
-          is_false false is = refl
 
       near_it : IsNear cores d e
       near_it =

@@ -1,6 +1,7 @@
 -- What holds of the epochs that run, as long as nothing has been violated: each is on its path, and committed memory is that of the
 -- run in order. At the start of the loop, and of an epoch.
 use Rattle.std.proofs.Common.{◌≡◌, ◌≢◌, ◌⊎◌, ℕ, ◌+◌, ◌<◌, ◌≤◌, true, false, List, length, slice_index, Option, Some, None, refl, sym, ap, subst, ◌∙◌, inl, inr, true≢false, arith}
+use Rattle.std.proofs.lemmas.Option.{same_Some}
 use Rattle.rv32_image.specs.Image.{LoadedImage}
 use Rattle.memory_bytes.specs.Maps.{nothing, over}
 use Rattle.rv32_exec.specs.Hart.{HartState, start_of}
@@ -81,14 +82,11 @@ unwritten image cores s k c a kept window orderly free at reads =
 
 -- ---- one core changed
 
-some_same : {A : Type 0} (x y : A) → Some x ≡ Some y → x ≡ y
-some_same x y is = cc
-
 pub cores_with : (image : LoadedImage) (cores : ℕ) (shown : ℕ → Option ℕ) (old : ℕ → Option CoreState) (by : ℕ) (new : CoreState) → OnPath image cores shown new
     → ((k : ℕ) (c : CoreState) → k ≢ by → old k ≡ Some c → OnPath image cores shown c)
     → (k : ℕ) (c : CoreState) → with_core old by (Some new) k ≡ Some c → OnPath image cores shown c
 cores_with image cores shown old by new here others k c at = elim (at_core old by (Some new) k c at) [
-  | inl same ↦ subst (λ x. OnPath image cores shown x) (some_same new c same.1) here
+  | inl same ↦ subst (λ x. OnPath image cores shown x) (same_Some new c same.1) here
   | inr other ↦ others k c other.0 other.1
 ]
 

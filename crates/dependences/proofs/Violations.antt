@@ -2,6 +2,7 @@
 use Rattle.std.proofs.Common.{◌≡◌, ◌≢◌, ◌⊎◌, ℕ, ◌<◌, ◌==◌, ◌&&◌, not, nat_lt, Bool, true, List, slice_get, take, Option, Some, None, refl, sym, ap, ◌∙◌, inl, inr, arith, eqb-true, ltb-true}
 use Rattle.std.proofs.lemmas.Bool.{and_parts, cases_Bool}
 use Rattle.rv32_image.specs.Image.{LoadedImage, IsImage}
+use Rattle.rv32_image.proofs.SmallFacts.{one_value}
 use Rattle.spec_history.specs.declared.entry.Entry.{Entry}
 use Rattle.spec_history.specs.declared.entry.What.{What}
 use Rattle.spec_history.specs.declared.entry.What.TheVariants.{Start, Load, Store, Hurt, Cancel, Restart, Publish, Commit, Fault}
@@ -91,9 +92,6 @@ runs_by image cores t by Publish None at can legal = absurd (not_running (t.core
 runs_by image cores t by Commit None at can legal = absurd (not_running (t.cores by) _ at legal.there)
 runs_by image cores t by (Fault cause pc) None at can legal = absurd (not_running (t.cores by) _ at legal.there)
 
-same_core : {A : Type 0} (o : Option A) (x y : A) → o ≡ Some x → o ≡ Some y → x ≡ y
-same_core o x y first second = cc
-
 module _ (image : LoadedImage) (cores : ℕ) (history : List Entry) (last : FlatState) (is : IsImage image) (replays : replay image cores history ≡ Some last)
     (starts : NoneStartsAfterCancel history) where
   acts_at : (n by epoch : ℕ) (s : FlatState) (c : CoreState) (what : What) → slice_get history n ≡ Some (record { by = by; what = Hurt epoch })
@@ -104,7 +102,7 @@ module _ (image : LoadedImage) (cores : ℕ) (history : List Entry) (last : Flat
       let legal = legal_entry image cores stands.later _ stands.legal in
       let d = runs_by image cores stands.later by what (stands.later.cores by) refl cause.can legal in
       let was = stands.far.core d.0 d.1 in
-      let same : was.0 ≡ c = same_core (s.cores by) was.0 c was.1 causer in
+      let same : was.0 ≡ c = one_value (s.cores by) was.0 c was.1 causer in
       acts_by image cores s stands.later by c what stands.far causer legal d.0 d.1
       (was.2 ∙ ap (λ (x : CoreState). x.hart) same) (was.3 ∙ ap (λ (x : CoreState). x.epoch) same)
 
