@@ -62,12 +62,10 @@ places_after image v w h shape same = record {
   apart = same.apart ∙ h.apart;
 }
 
-least : (a n : ℕ) → a < n → min a n ≡ a
-least a n lt = omega arith
-
 pub place_is : (image : LoadedImage) (v : CachedView) (a : ℕ) → HasPlaces image v → a < image.size → place_of v a ≡ place image.machine image.size a
 place_is image v a h below =
-    (λ i. place (record (h.machine i) { apart = h.apart i }) (h.size i) (min a (h.size i))) ∙ ap (place image.machine image.size) (least a image.size below)
+    let least : min a image.size ≡ a = omega arith in
+    (λ i. place (record (h.machine i) { apart = h.apart i }) (h.size i) (min a (h.size i))) ∙ ap (place image.machine image.size) least
 
 -- the room that a line takes is free of marks
 room_is : (cores : List Core) (k addr : ℕ) → IsPlacedCore cores k → IsRoom (core_at cores k) (room_at cores k addr)

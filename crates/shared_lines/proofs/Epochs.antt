@@ -1,7 +1,7 @@
 -- The epochs that run, and the bus that has their bytes: they may tell each other of their lines.
 use Rattle.std.proofs.Common.{◌≡◌, ◌≢◌, ◌⊎◌, ℕ, ◌+◌, ◌-◌, ◌*◌, ◌/◌, ◌%◌, ◌<◌, ◌≤◌, not, nat_lt, Bool, true, false, is_none, Option, Some, None, refl, sym, ap, subst, ◌∙◌, inl, inr, arith, ltb-true}
 use Rattle.std.proofs.Math.Path.{fun_ext}
-use Rattle.std.proofs.lemmas.Bool.{both_ways, cases_Bool, cases_eq, cases_lt}
+use Rattle.std.proofs.lemmas.Bool.{both_ways, cases_Bool, cases_eq, cases_lt, not-false, not-true}
 use Rattle.std.proofs.lemmas.Bool.Decides.{nat_tests}
 use Rattle.memory_bytes.specs.Bytes.{IsWidth}
 use Rattle.rv32_image.specs.Image.{LoadedImage}
@@ -9,6 +9,7 @@ use Rattle.rv32_image.specs.Machine.{IsMachineFor, is_line_length}
 use Rattle.rv32_image.specs.Places.{place}
 use Rattle.rv32_image.proofs.Bounds.{by_length}
 use Rattle.rv32_image.proofs.Places.{place-word, place-aligned}
+use Rattle.rv32_image.proofs.SmallFacts.{none_of, value_of}
 use Rattle.rv32_exec.specs.declared.stop.Stop.{Stop}
 use Rattle.rv32_exec.specs.declared.stop.Stop.TheVariants as stop
 use Rattle.rv32_exec.specs.Execute.{IsAccess, IsStore, IsStopOf}
@@ -109,22 +110,10 @@ store_access image h address width value is = let store : IsStore image (next_ev
 
 -- ---- the epochs that run
 
-none_of : {A : Type 0} (o : Option A) → is_none o ≡ true → o ≡ None
-none_of None is = refl
-none_of (Some x) is = absurd cc
-
-some_of : {A : Type 0} (o : Option A) → is_none o ≡ false → (x : A) × (o ≡ Some x)
-some_of None is = absurd cc
-some_of (Some x) is = (x, refl)
-
 -- a core that speculates on the bus runs
 pub runs_so : (o : Option CoreState) → speculates (attempt_by o) ≡ true → (c : CoreState) × (o ≡ Some c) × (c.straight ≡ false)
 runs_so None is = absurd cc
-runs_so (Some c) is = (c, refl, no c.straight is)
-  where
-    no : (b : Bool) → not b ≡ true → b ≡ false
-    no true e = absurd cc
-    no false e = refl
+runs_so (Some c) is = (c, refl, not-true c.straight is)
 
 pub speculates_so : (o : Option CoreState) (c : CoreState) → o ≡ Some c → c.straight ≡ false → speculates (attempt_by o) ≡ true
 speculates_so o c is speculative = ap (λ x. speculates (attempt_by x)) is ∙ ap not speculative
@@ -232,7 +221,7 @@ module _ (image : LoadedImage) (cores : ℕ) (machine : IsMachineFor image.size 
               at = address + found.0;
               in_line = line_is image machine address width access.wide access.aligned found.0 found.1;
               reads = reads_there image c.epoch (path_memory image cores c.epoch) c.hart c.own ((orderly.core k c at).speculates speculative) address width signed rd (address + found.0) is
-                  (omega arith) (let below = found.1 in omega (arith, below)) (none_of (c.own (address + found.0)) found.2);
+                  (omega arith) (let below = found.1 in omega (arith, below)) (none_of (c.own (address + found.0)) (not-true _ found.2));
             };
           })
       | inr none ↦ absurd (both_ways (has_all (marks_of (own bus k (line_at image address)).state (own bus k (line_at image address)).marks).bytes (offset_at image address) width) out
@@ -249,7 +238,7 @@ module _ (image : LoadedImage) (cores : ℕ) (machine : IsMachineFor image.size 
             let high : x < offset_at image address + width = grind (arith, nat_tests) in
             let i : ℕ = x - offset_at image address in
             let below : i < width = omega (arith, low, high) in
-            let byte = some_of (c.own (address + i)) (none_below width (λ j. is_none (c.own (address + j))) none i below) in
+            let byte = value_of (c.own (address + i)) (not-false _ (none_below width (λ j. is_none (c.own (address + j))) none i below)) in
             let had = seen.own k c (address + i) byte.0 at byte.1 in
             let line = line_is image machine address width access.wide access.aligned i below in
             let offset : offset_at image (address + i) ≡ x = offset_is image machine address width access.wide access.aligned i below ∙ omega (arith, low) in

@@ -1,6 +1,6 @@
 -- What a message makes of the other cores, where it can violate none: their marks and their buffers stay in order.
-use Rattle.std.proofs.Common.{◌≡◌, ◌≢◌, ◌⊎◌, ℕ, ◌<◌, ◌==◌, ◌||◌, ◌&&◌, not, Bool, true, false, cond, List, length, refl, sym, subst, ◌∙◌, inl, inr, arith, eqb-true}
-use Rattle.std.proofs.lemmas.Bool.{and_parts, both_ways, cases_Bool}
+use Rattle.std.proofs.Common.{◌≡◌, ◌≢◌, ◌⊎◌, ℕ, ◌<◌, ◌==◌, ◌||◌, ◌&&◌, not, Bool, true, false, List, length, refl, sym, subst, ◌∙◌, inl, inr, arith, eqb-true}
+use Rattle.std.proofs.lemmas.Bool.{and_parts, both_ways, cases_Bool, cond-false}
 use Rattle.std.proofs.lemmas.Bool.Decides.{nat_tests}
 use Rattle.spec_states.specs.declared.line.LineState.{LineState}
 use Rattle.spec_states.specs.declared.line.Marks.{Marks}
@@ -35,10 +35,6 @@ pub record MayHear (R W H : ℕ → Type 0) (notice : Notice) (addr : ℕ) (late
   pub fits : later ≡ true → FitsBuffer W H addr limit
 
 -- ---- one core
-
-second : {A : Type 0} (b : Bool) (x y : A) → b ≡ false → cond b x y ≡ y
-second true x y e = absurd cc
-second false x y e = refl
 
 none_hit : (same hit late : Bool) → hit ≡ false → late ≡ false → (not same && (hit || late)) ≡ false
 none_hit same hit late e f = grind (arith, nat_tests)
@@ -147,7 +143,7 @@ module _ (R W H : ℕ → Type 0) (bus : Bus) (message : Message) (k limit : ℕ
   pub heard-stays : Stays R W H (bus.core k) (heard_core bus message k)
   heard-stays =
       subst (λ (c : CoreState). Stays R W H (bus.core k) c)
-      (sym (second (violates bus message k) (with_copy message.addr copies.no_copy (dropped_core (bus.core k)))
+      (sym (cond-false (violates bus message k) (with_copy message.addr copies.no_copy (dropped_core (bus.core k)))
       (changed_core message.addr (reply bus message k) (bytes_after message.notice (reply bus message k).marks.bytes ((bus.core k).copy message.addr).cell message.line) (bus.core k)) unviolated))
       (changed-stays R W H (bus.core k) h message.notice message.addr (is_later bus message.sender k) limit may limit_is
       (bytes_after message.notice (reply bus message k).marks.bytes ((bus.core k).copy message.addr).cell message.line))

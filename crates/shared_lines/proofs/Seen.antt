@@ -2,6 +2,7 @@
 use Rattle.std.proofs.Common.{◌≡◌, ◌≢◌, ℕ, ◌+◌, ◌-◌, ◌*◌, ◌%◌, ◌<◌, true, Option, Some, None, sym, ap, subst, ◌∙◌, inl, inr, arith}
 use Rattle.std.proofs.lemmas.Bool.{cases_eq}
 use Rattle.std.proofs.lemmas.Bool.Decides.{nat_tests}
+use Rattle.std.proofs.lemmas.Option.{same_Some}
 use Rattle.memory_bytes.specs.Bytes.{IsWidth}
 use Rattle.memory_bytes.specs.Maps.{joined, stored}
 use Rattle.rv32_image.specs.Image.{LoadedImage}
@@ -18,9 +19,6 @@ use Rattle.shared_lines.proofs.Speculating.{goes-tidy}
 use Rattle.shared_lines.proofs.Straights.{Sets, sets-tidy}
 use Rattle.shared_lines.proofs.Lines.{Reads, Shares, Writes}
 use Rattle.shared_lines.proofs.Epochs.{IsSeen, attempt_by, line_at, line_is, offset_at, offset_is}
-
-some_same : {A : Type 0} (x y : A) → Some x ≡ Some y → x ≡ y
-some_same x y is = cc
 
 module _ (image : LoadedImage) (cores : ℕ) (s : FlatState) (old new : Bus) (seen : IsSeen image cores s old) (by : ℕ) where
   -- the bus has a byte that the core owns
@@ -51,7 +49,7 @@ module _ (image : LoadedImage) (cores : ℕ) (s : FlatState) (old new : Bus) (se
         ∙ ap (λ f. attempt_by (f k)) (sym cores_are);
     limit = λ k below. (goes.core k).limit ∙ seen.limit k below;
     own = λ k d a byte at_k is. own_with (Some next) (λ j e away at_j x b is_own. (goes.core j).masks (line_at image x) (offset_at image x) (seen.own j e x b at_j is_own))
-        (λ e same x b is_own. mine x b (ap (λ (y : CoreState). y.own x) (some_same next e same) ∙ is_own)) k d a byte (sym (ap (λ f. f k) cores_are) ∙ at_k) is;
+        (λ e same x b is_own. mine x b (ap (λ (y : CoreState). y.own x) (same_Some next e same) ∙ is_own)) k d a byte (sym (ap (λ f. f k) cores_are) ∙ at_k) is;
     tidy = goes-tidy (Reads image cores) (Writes image cores) (Shares image cores) old new goes;
   }
 

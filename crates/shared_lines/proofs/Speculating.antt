@@ -1,7 +1,8 @@
 -- Speculative loads and stores of a core: nobody is violated, and every core stays in order.
 use Rattle.std.proofs.Common.{◌≡◌, ◌≢◌, ◌⊎◌, ℕ, zero, suc, ◌==◌, ◌||◌, ◌&&◌, not, Bool, true, false, cond, Option, None, refl, sym, ap, subst, ◌∙◌, inl, inr}
-use Rattle.std.proofs.lemmas.Bool.{and_parts, both_ways, cases_Bool}
+use Rattle.std.proofs.lemmas.Bool.{and_parts, both_ways, cases_Bool, not-false}
 use Rattle.memory_bytes.specs.Bytes.{IsWidth}
+use Rattle.spec_history.proofs.Replay.Joining.{not_same}
 use Rattle.spec_states.specs.declared.line.LineState.{LineState}
 use Rattle.spec_states.specs.declared.line.LineState.TheVariants.{I, S, E, M, SpS, SpE}
 use Rattle.spec_states.specs.declared.line.Marks.{Marks}
@@ -20,7 +21,7 @@ use Rattle.bus_states.specs.Coherent.{speculates}
 use Rattle.bus_states.specs.Messages.{IsRoom, Message, Room, after_message, is_alone, leaves, message_of, order, remains, reply, violates, with_copy}
 use Rattle.bus_states.specs.Speculative.{after_claim, after_load, after_store, holds_line, kept_line, load_next, own, owns, room_for, store_next, with_bytes}
 use Rattle.bus_states.proofs.Accesses.{none-room, not_leaving, own-after, own-kept, store-masked}
-use Rattle.bus_states.proofs.Copies.{made, itself}
+use Rattle.bus_states.proofs.Copies.{made}
 use Rattle.shared_lines.proofs.Tidy.{IsTidy, IsChange, Stays, made-mask, with_copy-tidy, with_copy-masks, stays-then}
 use Rattle.shared_lines.proofs.Accesses.{OfEpochs, AreTidy, MayTell, Goes, attempts, limits, epoch_on, message-goes, alone-goes, takes-stays, keeps-stays, load-change, load-mask, store-change, store-mask}
 
@@ -91,10 +92,6 @@ some_passes (suc n) test is = elim (cases_Bool (test n)) [
   | inr out ↦ some_passes n test (sym (ap (λ b. b || some_core n test) out) ∙ is)
 ]
 
-not_true : (b : Bool) → not b ≡ false → b ≡ true
-not_true true e = refl
-not_true false e = absurd cc
-
 -- a store enters a buffer only where another copy remains
 not_alone : (s : LineState) (modified alone : Bool) → (own_store_table s modified alone).enters ≡ true → alone ≡ false
 not_alone s modified false e = refl
@@ -150,9 +147,6 @@ module _ (R W H : OfEpochs) (bus : Bus) (h : AreTidy R W H bus) (core addr offse
       let fit = (h k).fit addr in
       met k (not_same k core first.0) (running k marked) (touched copy.marks fit.read fit.written (fit.right.marked marked))
     where
-      not_same : (k core : ℕ) → not (k == core) ≡ true → k ≢ core
-      not_same k core is same = both_ways (not (k == core)) (ap not (subst (λ n. (k == n) ≡ true) same (itself k))) is
-
       running : (k : ℕ) → is_speculative ((bus.core k).copy addr).state ≡ true → speculates (bus.core k).attempt ≡ true
       running k marked = elim (cases_Bool (speculates (bus.core k).attempt)) [
         | inl is ↦ is
@@ -169,7 +163,7 @@ module _ (R W H : OfEpochs) (bus : Bus) (h : AreTidy R W H bus) (core addr offse
   enters is =
       let copy : LineCopy = own bus core addr in
       let some = some_passes bus.shape.cores (remains bus tells)
-      (not_true (some_core bus.shape.cores (remains bus tells)) (not_alone copy.state (is_written (marks_of copy.state copy.marks)) (is_alone bus tells) is)) in
+      (not-false (some_core bus.shape.cores (remains bus tells)) (not_alone copy.state (is_written (marks_of copy.state copy.marks)) (is_alone bus tells) is)) in
       beside some.0 some.1
 
   store_changes : IsChange (R (epoch_on bus core) addr) (W (epoch_on bus core) addr) (H (epoch_on bus core) addr) own_core.attempt (own_core.copy addr) stores

@@ -2,6 +2,7 @@
 use Rattle.std.proofs.Common.{◌≡◌, ℕ, ◌==◌, ◌||◌, ◌&&◌, not, Bool, true, false, cond, List, [], ◌∷◌, ◌++◌, Option, refl, sym, ap, subst, ◌∙◌, inl, inr, arith, eqb-true}
 use Rattle.std.proofs.lemmas.Bool.{cases_Bool}
 use Rattle.std.proofs.lemmas.Bool.Decides.{nat_tests}
+use Rattle.rv32_image.proofs.SmallFacts.{or_false}
 use Rattle.spec_states.specs.declared.line.LineState.{LineState}
 use Rattle.spec_states.specs.declared.line.LineState.TheVariants.{I, S, E, M, SpS, SpE}
 use Rattle.spec_states.specs.declared.line.Marks.{Marks}
@@ -84,10 +85,7 @@ by_addr P old addr copy a here there =
 
 entry-holds : (enters : Bool) (addr a : ℕ) (buffer : Buffer) → holds (with_entry enters addr buffer).lines a ≡ (holds buffer.lines a || (enters && (addr == a)))
 entry-holds true addr a buffer = holds-push buffer.lines addr a
-entry-holds false addr a buffer = tidy (holds buffer.lines a)
-  where
-    tidy : (b : Bool) → b ≡ (b || false)
-    tidy b = grind (arith, nat_tests)
+entry-holds false addr a buffer = sym (or_false (holds buffer.lines a))
 
 entry : (held req req2 enters : Bool) → held ≡ req → enters ≡ (req2 && not req) → (req ≡ true → req2 ≡ true) → (held || enters) ≡ req2
 entry held true req2 enters e f up = grind (arith, nat_tests, up refl)

@@ -1,6 +1,6 @@
 -- Each kind of turn: it violates nobody, and the bus has what the state has then.
-use Rattle.std.proofs.Common.{◌≡◌, ◌≢◌, ℕ, ◌<◌, ◌≤◌, ◌==◌, ◌&&◌, nat_lt, Bool, true, false, cond, List, [], ◌∷◌, ◌++◌, Option, Some, None, is_some, option_map, refl, sym, ap, subst, ◌∙◌, inl, inr, arith, ne_eqb, lt-ltb, ltb-true}
-use Rattle.std.proofs.lemmas.Bool.{both_ways, cases_Bool}
+use Rattle.std.proofs.Common.{◌≡◌, ◌≢◌, ℕ, ◌==◌, ◌&&◌, Bool, true, false, cond, List, [], ◌∷◌, ◌++◌, Option, Some, None, is_some, option_map, refl, sym, ap, subst, ◌∙◌, ne_eqb, lt-ltb}
+use Rattle.std.proofs.lemmas.Bool.{both_ways, le-ltb}
 use Rattle.memory_bytes.specs.Maps.{joined, stored}
 use Rattle.rv32_image.specs.Image.{IsImage}
 use Rattle.rv32_exec.specs.declared.stop.Stop.{Stop}
@@ -81,12 +81,6 @@ goes_made false (Some c) false core first access v w e f g made = absurd cc
 goes_made false (Some c) true core first access v w e f g (x, y, one, two, three) =
     record { cause = c; why_is = refl; waiting = x; published = y; waits_made = one; publish_made = two; access_is = three }
 
-not_below : (n m : ℕ) → m ≤ n → nat_lt n m ≡ false
-not_below n m most = elim (cases_Bool (nat_lt n m)) [
-  | inl is ↦ (let low : n < m = ltb-true n m is in absurd (omega (arith, low, most)))
-  | inr out ↦ out
-]
-
 pub places_then : (u v w : CachedView) → HaveSamePlaces u v → HaveSamePlaces v w → HaveSamePlaces u w
 places_then u v w one two = record { size = two.size ∙ one.size; apart = two.apart ∙ one.apart }
 
@@ -132,7 +126,7 @@ module _ (t : Turn) (is : IsImage t.image) (free : LineConflict t.image t.cores 
       (keeps_same t is free room_left whole starts h replays unhurt w answer (bus r) seen (ap bus stays) (subst (λ (x : CachedView). HasPlaces t.image x) (sym stays) places))
 
   pub none_turn : turn.IsNoneLeft t v (store_view w) out → Keeps t h w out
-  none_turn l = stays_turn _ l.out_is (at_none (standing_of t) r w moves (ap (option_map kept_of) l.idle) (not_below t.state.next_epoch t.image.epochs l.left))
+  none_turn l = stays_turn _ l.out_is (at_none (standing_of t) r w moves (ap (option_map kept_of) l.idle) (le-ltb t.state.next_epoch t.image.epochs l.left))
 
   pub told_turn : turn.IsTold t v (store_view w) out → Keeps t h w out
   told_turn l = stays_turn _ l.out_is (at_stale (standing_of t) r w moves l.core (ap (option_map kept_of) l.runs) l.unhurt l.stale)
