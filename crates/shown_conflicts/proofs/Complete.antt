@@ -3,6 +3,7 @@
 use Rattle.std.proofs.Common.{◌≡◌, ℕ, ◌+◌, ◌<◌, ◌≤◌, ◌||◌, ◌==◌, not, Bool, true, false, cond, List, length, slice_index, take, Option, Some, None, is_some, unwrap_or, refl, sym, ap, subst, ◌∙◌, inl, inr, true≢false, arith, eqb-true}
 use Rattle.std.proofs.lemmas.Bool.{and_parts, not-true}
 use Rattle.std.proofs.lemmas.List.{take_all}
+use Rattle.std.proofs.lemmas.Option.{none-some, same_Some}
 use Rattle.rv32_image.specs.Image.{LoadedImage, IsImage}
 use Rattle.memory_bytes.specs.Bytes.{number_at}
 use Rattle.memory_bytes.specs.Maps.{first_of, joined, over, read_outside, stored}
@@ -108,30 +109,24 @@ module _ (image : LoadedImage) (c : CoreState) (address width value : ℕ) (is :
 unhurt_so : (core : Option CoreState) (c : CoreState) → core ≡ Some c → runs_and core (λ x. true) ≡ true → c.hurt ≡ false
 unhurt_so core c at is = not-true c.hurt (and_parts (not c.hurt) true (sym (ap (λ o. runs_and o (λ x. true)) at) ∙ is)).0
 
-one_is : (P : CoreState → Type 0) (new d : CoreState) → Some new ≡ Some d → P new → P d
-one_is P new d is holds = let same : new ≡ d = cc in subst P same holds
-
 core_with : (image : LoadedImage) (cores : ℕ → Option CoreState) (by : ℕ) (new : CoreState) → (new.straight ≡ false → Knows image new) → AllKnow image cores
     → AllKnow image (with_core cores by (Some new))
 core_with image cores by new here all k d at = elim (at_core cores by (Some new) k d at) [
-  | inl same ↦ one_is (λ x. x.straight ≡ false → Knows image x) new d same.1 here
+  | inl same ↦ subst (λ (x : CoreState). x.straight ≡ false → Knows image x) (same_Some new d same.1) here
   | inr other ↦ all k d other.1
 ]
 
-none_is : (d : CoreState) → None ≡ Some d → ⊥
-none_is d is = cc
-
 core_without : (image : LoadedImage) (cores : ℕ → Option CoreState) (by : ℕ) → AllKnow image cores → AllKnow image (with_core cores by None)
 core_without image cores by all k d at = elim (at_core cores by None k d at) [
-  | inl same ↦ absurd (none_is d same.1)
+  | inl same ↦ absurd (none-some d same.1)
   | inr other ↦ all k d other.1
 ]
 
 hurt_knows : (image : LoadedImage) (epoch : ℕ) (core : Option CoreState) → ((c : CoreState) → core ≡ Some c → c.straight ≡ false → Knows image c)
     → (d : CoreState) → hurt_at epoch core ≡ Some d → d.straight ≡ false → Knows image d
-hurt_knows image epoch None all d is = absurd (none_is d is)
+hurt_knows image epoch None all d is = absurd (none-some d is)
 hurt_knows image epoch (Some c) all d is =
-    one_is (λ x. x.straight ≡ false → Knows image x) (record c { hurt = c.hurt || (c.epoch == epoch) }) d is
+    subst (λ (x : CoreState). x.straight ≡ false → Knows image x) (same_Some (record c { hurt = c.hurt || (c.epoch == epoch) }) d is)
     (λ speculates memory has. let was = all c refl speculates memory has in record { at = was.at; read = was.read })
 
 module _ (image : LoadedImage) (count : ℕ) (s : FlatState) (kept : IsKept image count s) (all : AllKnow image s.cores) where
@@ -185,7 +180,7 @@ module _ (image : LoadedImage) (count : ℕ) (s : FlatState) (kept : IsKept imag
 -- ---- all entries
 
 first_knows : (image : LoadedImage) → AllKnow image (first_state image).cores
-first_knows image k c is = absurd (none_is c is)
+first_knows image k c is = absurd (none-some c is)
 
 -- in each state of a replay
 pub all_know : (image : LoadedImage) (count : ℕ) (history : List Entry) (s : FlatState) → IsImage image → replay image count history ≡ Some s → AllKnow image s.cores

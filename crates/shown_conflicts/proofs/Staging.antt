@@ -1,6 +1,7 @@
 -- How far a schedule has come after each of its turns and runs.
 use Rattle.std.proofs.Common.{◌≡◌, ◌≢◌, ℕ, ◌+◌, ◌<◌, ◌≤◌, Bool, cond, [], slice_get, Some, None, ne_eqb, Result, Ok, Err, MatchResult, refl, sym, ap, subst, ◌∙◌, inl, inr, true≢false, arith}
 use Rattle.std.proofs.lemmas.Bool.{cases_eq, cases_lt}
+use Rattle.std.proofs.lemmas.Option.{none-some}
 use Rattle.std.proofs.Math.ListN.{replicate}
 use Rattle.rv32_image.specs.Image.{LoadedImage, IsImage}
 use Rattle.rv32_image.proofs.SmallFacts.{one_value}
@@ -44,16 +45,13 @@ ready_at_first b some replays = record {
   replays = replays;
   quiet = record {
     going = ap (λ (t : Bool). cond t (Some (Done 0)) None) (ne_eqb 0 b.image.epochs (omega (arith, some)));
-    unhurt = λ k c at. absurd (none_is c at);
-    speculates = λ k c at. absurd (none_is c at);
+    unhurt = λ k c at. absurd (none-some c at);
+    speculates = λ k c at. absurd (none-some c at);
   };
   homefree = refl;
   next = refl;
   idle = λ k. refl;
 }
-  where
-    none_is : (c : CoreState) → None ≡ Some c → ⊥
-    none_is c is = cc
 
 -- ---- the epochs before the window
 
@@ -223,13 +221,10 @@ fresh_drive d empty shares held unstopped = record {
     none_there : (place : ℕ) (entry : Entry) → slice_get [] place ≡ Some entry → ⊥
     none_there place entry at = cc
 
-    none_is : (c : CoreState) → None ≡ Some c → ⊥
-    none_is c is = cc
-
     idle : (s : FlatState) → ReplaysTo d.book s → (k : ℕ) (c : CoreState) → s.cores k ≡ Some c → ⊥
     idle s replays k c at =
         let same : first_state d.book.image ≡ s = one_value (replay d.book.image d.book.cores d.book.history) (first_state d.book.image) s (first_is d.book empty) replays in
-        none_is c (ap (λ (x : FlatState). x.cores k) same ∙ at)
+        none-some c (ap (λ (x : FlatState). x.cores k) same ∙ at)
 
 pub result_by : {T E : Type 0} (P Q : T → Type 0) (R : E → Type 0) (r : Result T E) → ((x : T) → P x → Q x) → MatchResult r P R → MatchResult r Q R
 result_by P Q R (Ok x) so m = so x m

@@ -1,6 +1,7 @@
 -- What a turn over a plain store makes of a quiet state, where it violates no epoch.
 use Rattle.std.proofs.Common.{◌≡◌, ◌≢◌, ℕ, zero, suc, ◌+◌, ◌<◌, ◌==◌, Bool, true, false, cond, List, [], ◌∷◌, ◌++◌, length, slice_get, Option, Some, None, is_some, IsSome, refl, sym, ap, subst, ◌∙◌, inl, inr, true≢false, arith, append-nil, eqb-true}
 use Rattle.std.proofs.lemmas.Bool.{cases_eq}
+use Rattle.std.proofs.lemmas.Option.{none-some, same_Some}
 use Rattle.rv32_image.specs.Image.{LoadedImage, IsImage}
 use Rattle.rv32_image.proofs.SmallFacts.{one_value}
 use Rattle.rv32_exec.specs.declared.stop.Stop.{Stop}
@@ -93,34 +94,28 @@ one_more image count history s t entry before replays =
 
 -- ---- quiet states
 
-some_is : (P : CoreState → Type 0) (new d : CoreState) → Some new ≡ Some d → P new → P d
-some_is P new d is holds = let same : new ≡ d = cc in subst P same holds
-
 quiet_with : (s x : FlatState) (by : ℕ) (new : CoreState) → IsQuiet s → x.end ≡ None → x.cores ≡ with_core s.cores by (Some new) → new.hurt ≡ false → new.straight ≡ false → IsQuiet x
 quiet_with s x by new quiet going cores unhurt speculates = record {
   going = going;
   unhurt = λ k d at. elim (at_core s.cores by (Some new) k d (sym (ap (λ (f : ℕ → Option CoreState). f k) cores) ∙ at)) [
-    | inl same ↦ some_is (λ y. y.hurt ≡ false) new d same.1 unhurt
+    | inl same ↦ subst (λ (y : CoreState). y.hurt ≡ false) (same_Some new d same.1) unhurt
     | inr other ↦ quiet.unhurt k d other.1
   ];
   speculates = λ k d at. elim (at_core s.cores by (Some new) k d (sym (ap (λ (f : ℕ → Option CoreState). f k) cores) ∙ at)) [
-    | inl same ↦ some_is (λ y. y.straight ≡ false) new d same.1 speculates
+    | inl same ↦ subst (λ (y : CoreState). y.straight ≡ false) (same_Some new d same.1) speculates
     | inr other ↦ quiet.speculates k d other.1
   ];
 }
-
-none_is : (d : CoreState) → None ≡ Some d → ⊥
-none_is d is = cc
 
 quiet_without : (s x : FlatState) (by : ℕ) → IsQuiet s → x.end ≡ None → x.cores ≡ with_core s.cores by None → IsQuiet x
 quiet_without s x by quiet going cores = record {
   going = going;
   unhurt = λ k d at. elim (at_core s.cores by None k d (sym (ap (λ (f : ℕ → Option CoreState). f k) cores) ∙ at)) [
-    | inl same ↦ absurd (none_is d same.1)
+    | inl same ↦ absurd (none-some d same.1)
     | inr other ↦ quiet.unhurt k d other.1
   ];
   speculates = λ k d at. elim (at_core s.cores by None k d (sym (ap (λ (f : ℕ → Option CoreState). f k) cores) ∙ at)) [
-    | inl same ↦ absurd (none_is d same.1)
+    | inl same ↦ absurd (none-some d same.1)
     | inr other ↦ quiet.speculates k d other.1
   ];
 }
@@ -490,8 +485,8 @@ module _ (t : Turn) (v w : StoreView) (out : Outcome) (h : List Entry) (u : Flat
         (record {
           quiet = quiet_with t.state x t.core new quiet going_on cores unhurt speculates;
           others = others_with t.state x t.core (Some new) cores;
-          own = λ c at. some_is (λ y. y.hart ≡ hart) new c
-              (sym (ap (λ (f : ℕ → Option CoreState). f t.core) cores ∙ with_core_same t.state.cores t.core (Some new)) ∙ at) hart_is;
+          own = λ c at. subst (λ (y : CoreState). y.hart ≡ hart)
+              (same_Some new c (sym (ap (λ (f : ℕ → Option CoreState). f t.core) cores ∙ with_core_same t.state.cores t.core (Some new)) ∙ at)) hart_is;
           grows = λ hart' is. some;
         }))
 
@@ -533,7 +528,7 @@ module _ (t : Turn) (v w : StoreView) (out : Outcome) (h : List Entry) (u : Flat
         keeps_out t u out entries Left is_out (subst (λ (y : FlatState). Keeps t y (does entries Left)) (sym made) (record {
           quiet = quiet_without t.state x t.core quiet none_ends refl;
           others = others_with t.state x t.core None refl;
-          own = λ d at_d. none_is d (sym (with_core_same t.state.cores t.core None) ∙ at_d);
+          own = λ d at_d. none-some d (sym (with_core_same t.state.cores t.core None) ∙ at_d);
           grows = λ hart is. absurd (left_no_go hart is);
         }))
       where
