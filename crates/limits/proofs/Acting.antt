@@ -1,8 +1,7 @@
 -- What each kind of turn makes of the timing of a run's epochs.
-use Rattle.std.proofs.Common.{◌≡◌, ◌≢◌, ℕ, ◌+◌, ◌-◌, ◌<◌, ◌≤◌, Bool, true, false, cond, is_some, List, [], ◌++◌, Option, Some, None, unwrap_or, if◌then◌else◌, refl, sym, ap, subst, ◌∙◌, inl, inr, true≢false, arith}
-use Rattle.std.proofs.lemmas.Bool.{cases_Bool}
+use Rattle.std.proofs.Common.{◌≡◌, ◌≢◌, ℕ, ◌+◌, ◌-◌, ◌<◌, ◌≤◌, Bool, true, false, is_some, List, [], ◌++◌, Option, Some, None, unwrap_or, if◌then◌else◌, refl, sym, ap, subst, ◌∙◌, inl, inr, true≢false, arith}
+use Rattle.std.proofs.lemmas.Bool.{cases_Bool, cond-false}
 use Rattle.rv32_exec.specs.declared.stop.Stop.TheVariants as stop
-use Rattle.rv32_exec.specs.declared.sequential.End.{End}
 use Rattle.rv32_exec.specs.declared.sequential.End.TheVariants as end
 use Rattle.memory_bytes.specs.Bytes.{number_at}
 use Rattle.memory_bytes.specs.Maps.{joined, over, read_outside, stored}
@@ -281,10 +280,6 @@ module _ (image : LoadedImage) (cores core : ℕ) (kind : Waits) (now : ℕ) (s 
 
     -- ---- commits
 
-    no_end : (b : Bool) (e : End) (o : Option End) → b ≡ false → o ≡ None → cond b (Some e) o ≡ None
-    no_end true e o fails none = absurd (true≢false fails)
-    no_end false e o fails none = none
-
     module _ (homefree : c.epoch ≡ s.homefree) where
       pub commits : (between : StoreView) (hurt : ℕ → Bool) → publishes_unless c.straight v between core hurt → (next_event image c.hart).at ≡ stop.Ended
           → exits image (next_event image c.hart).now ≡ false → end_at image (s.homefree + 1) ≡ None → Ends between w core
@@ -302,7 +297,7 @@ module _ (image : LoadedImage) (cores core : ℕ) (kind : Waits) (now : ℕ) (s 
             marks = m';
             replays = y.replays;
             agrees = y.agrees;
-            going = no_end (exits image (next_event image c.hart).now) (end.Exit s.homefree) (end_at image (s.homefree + 1)) stays more;
+            going = cond-false (exits image (next_event image c.hart).now) (Some (end.Exit s.homefree)) (end_at image (s.homefree + 1)) stays ∙ more;
             timed = leaves image kind cores now u m core c going_u timed_u p.at homefree unhurt its_due
                 (subst (λ a. HasStopped (after_stop (next_event image c.hart).now (path image kind cores now u m core c going_u timed_u p.at homefree unhurt its_due).at.after a)) (sym next) tt)
                 (unread hurt between publishes);

@@ -1,7 +1,6 @@
 -- A core that is held at a load depends there on an epoch that hasn't committed.
 use Rattle.std.proofs.Common.{◌≡◌, ℕ, zero, suc, ◌+◌, ◌<◌, ◌≤◌, ◌==◌, ◌&&◌, ◌||◌, not, nat_le, nat_lt, is_none, Bool, true, false, List, Option, Some, refl, sym, ap, subst, ◌∙◌, inl, inr, true≢false, arith, eqb-true}
-use Rattle.std.proofs.lemmas.Bool.{and_parts, cases_Bool, cases_eq, cases_lt}
-use Rattle.std.proofs.lemmas.Bool.Decides.{nat_tests}
+use Rattle.std.proofs.lemmas.Bool.{and_parts, cases_Bool, cases_eq, cases_lt, le-leb, lt-ltb}
 use Rattle.std.proofs.lemmas.List.Folds.{Any-from_list_any}
 use Rattle.rv32_exec.specs.declared.stop.Stop.TheVariants as stop
 use Rattle.rv32_image.specs.Image.{LoadedImage}
@@ -64,16 +63,10 @@ store_at image (Runs h after) a = store_in (hart_effect image h) a
 store_at image (Ends h after) a = false
 store_at image (Faults cause pc after) a = false
 
-le_is : (x y : ℕ) → x ≤ y → nat_le x y ≡ true
-le_is x y is = grind (arith, nat_tests)
-
-lt_is : (x y : ℕ) → x < y → nat_lt x y ≡ true
-lt_is x y is = grind (arith, nat_tests)
-
 shows : (image : LoadedImage) (epoch step a : ℕ) (memory : List ℕ) → StoresAt image epoch memory step a → store_at image (after_steps image step (start_of image epoch) memory) a ≡ true
 shows image epoch step a memory there =
     ap (λ p. store_at image p a) there.runs ∙ (ap (λ e. store_in e a) there.stops
-    ∙ both (nat_le there.address a) (nat_lt a (there.address + there.width)) (le_is there.address a there.from) (lt_is a (there.address + there.width) there.below))
+    ∙ both (nat_le there.address a) (nat_lt a (there.address + there.width)) (le-leb there.address a there.from) (lt-ltb a (there.address + there.width) there.below))
 
 stored_by : (image : LoadedImage) (epoch step a : ℕ) (memory : List ℕ) (h : HartState) (after : List ℕ) (e : Effect) → hart_effect image h ≡ e
     → after_steps image step (start_of image epoch) memory ≡ Runs h after → store_in e a ≡ true → StoresAt image epoch memory step a

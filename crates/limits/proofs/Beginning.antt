@@ -2,6 +2,7 @@
 use Rattle.std.proofs.Common.{◌≡◌, ◌≢◌, ℕ, ◌+◌, ◌<◌, ◌≤◌, ◌==◌, Some, None, if◌then◌else◌, refl, sym, ap, subst, ◌∙◌, inl, inr, true≢false, arith}
 use Rattle.std.proofs.lemmas.Bool.{cases_eq}
 use Rattle.std.proofs.lemmas.Bool.Decides.{nat_tests}
+use Rattle.std.proofs.lemmas.Option.{none-some}
 use Rattle.rv32_image.specs.Image.{LoadedImage}
 use Rattle.memory_bytes.specs.Maps.{nothing}
 use Rattle.spec_history.specs.FlatState.{CoreState, FlatState, begun, first_state}
@@ -53,12 +54,6 @@ begun_under image waits m by epoch now begin from = record {
     after = λ is. absurd (true≢false (sym is));
   };
 }
-
-none_some : (c : CoreState) → None ≡ Some c → ⊥
-none_some c is = cc
-
-none_epoch : (d : ℕ) → None ≡ Some d → ⊥
-none_epoch d is = cc
 
 -- ---- it begins its epoch again
 
@@ -204,6 +199,6 @@ first_timed image waits cores = record {
   begins = λ d low. absurd (omega (arith, low));
   begun = λ d. omega arith;
   owned = λ d low. absurd (omega (arith, low));
-  core = λ k c is. absurd (none_some c is);
-  idle = λ k none d is. absurd (none_epoch d is);
+  core = λ k c is. absurd (none-some c is);
+  idle = λ k none d is. absurd (none-some d is);
 }

@@ -1,7 +1,6 @@
 -- The turns of a run at even speed, one after another: their steps are a timing.
 use Rattle.std.proofs.Common.{◌≡◌, ◌≢◌, ℕ, ◌+◌, ◌-◌, ◌<◌, ◌≤◌, ◌==◌, Bool, true, false, List, [], ◌∷◌, ◌++◌, Option, Some, None, Result, Ok, Err, option_map, if◌then◌else◌, refl, sym, ap, subst, ◌∙◌, inl, inr, arith, true≢false, eq-eqb, ne_eqb, eqb-true}
 use Rattle.std.proofs.lemmas.Bool.{cases_eq}
-use Rattle.std.proofs.lemmas.Bool.Decides.{nat_tests}
 use Rattle.rv32_image.specs.Image.{IsImage, LoadedImage}
 use Rattle.rv32_image.proofs.SmallFacts.{none_and_some, one_value}
 use Rattle.rv32_exec.specs.declared.sequential.End.{End}
@@ -41,7 +40,8 @@ use Rattle.even_speed.specs.Account.{total}
 use Rattle.even_speed.specs.Clocks.{IsFirst, answered, due_of, dues, late_clocks, woken, woken_from}
 use Rattle.even_speed.specs.Even.{EndsOrGoes, Evenly, Pace, Pacing, at_first, executed_by, go_answer, pace_after, prices_in, restarts}
 use Rattle.even_speed.specs.Held.{held_in}
-use Rattle.even_speed.specs.Pricing.{begins, if_needed, later, over_at}
+use Rattle.even_speed.specs.Pricing.{over_at}
+use Rattle.even_speed.proofs.Sounding.{begins_least, later_least}
 use Rattle.limits.specs.declared.limit.Waits.TheVariants as kind
 use Rattle.limits.specs.declared.limit.Waits.{Waits as Kind}
 use Rattle.limits.specs.Bound.{IsBelowRuns}
@@ -54,23 +54,8 @@ use Rattle.limits.proofs.Turns.{ComesTo, GoesOn, IsFor, acts}
 
 -- ---- when a turn begins
 
-later_both : (now due : ℕ) → (now ≤ later now due) × (due ≤ later now due)
-later_both now due = (grind (arith, nat_tests), grind (arith, nat_tests))
-
-needed : (needs : Bool) (free at : ℕ) → at ≤ if_needed needs free at
-needed true free at = (later_both free at).1
-needed false free at = omega arith
-
-begins_after : (free : Free) (p : Price) (due : ℕ) → (free.began ≤ begins free p due) × (due ≤ begins free p due)
-begins_after free p due =
-    let base = later_both free.began due in
-    let bus = needed p.needs_bus free.bus (later free.began due) in
-    let order = needed p.in_order free.order (if_needed p.needs_bus free.bus (later free.began due)) in
-    let first = base.0 in
-    let second = base.1 in (omega (arith, first, bus, order), omega (arith, second, bus, order))
-
 over_after : (free : Free) (at : ℕ) (p : Price) → at + 1 ≤ over_at free at p
-over_after free at p = let most = (later_both free.order (at + total p.spent)).1 in omega (arith, most)
+over_after free at p = let most = (later_least free.order (at + total p.spent)).1 in omega (arith, most)
 
 -- ---- when cores are due
 
@@ -191,10 +176,10 @@ module _ {S : Type 0} (makes : S → Call → S → Type 0) (view : S → StoreV
     Ends' answer = EndsOrGoes old mid paced.queues p t answer rest (Ok (Some ran)) new (Runs (pace_after old mid paced.queues p t (go_answer answer)) mid rest new)
 
     late : p.free.began ≤ t.at
-    late = let both = begins_after p.free t.price t.due in let from = both.0 in let at = first.begins_at in omega (arith, from, at)
+    late = let both = begins_least p.free t.price t.due in let from = both.0 in let at = first.begins_at in omega (arith, from, at)
 
     due_then : t.due ≤ t.at
-    due_then = let both = begins_after p.free t.price t.due in let from = both.1 in let at = first.begins_at in omega (arith, from, at)
+    due_then = let both = begins_least p.free t.price t.due in let from = both.1 in let at = first.begins_at in omega (arith, from, at)
 
     due : m.from t.core + gap image (s.cores t.core) ≤ t.at
     due =

@@ -1,8 +1,9 @@
 -- An epoch commits, or faults as the homefree one: it is one more of the timing.
-use Rattle.std.proofs.Common.{◌≡◌, ◌≢◌, ℕ, ◌+◌, ◌-◌, ◌<◌, ◌≤◌, true, false, is_some, List, length, slice_index, Option, Some, None, refl, sym, ap, subst, ◌∙◌, inl, inr, arith}
+use Rattle.std.proofs.Common.{◌≡◌, ◌≢◌, ℕ, ◌+◌, ◌-◌, ◌<◌, ◌≤◌, true, false, is_some, List, length, slice_index, Some, None, refl, sym, ap, subst, ◌∙◌, inl, inr, arith}
 use Rattle.std.proofs.lemmas.Bool.{cases_Bool, cases_eq}
+use Rattle.std.proofs.lemmas.Option.{none-some, same_Some}
 use Rattle.rv32_image.specs.Image.{LoadedImage}
-use Rattle.rv32_image.proofs.SmallFacts.{one_value}
+use Rattle.rv32_image.proofs.SmallFacts.{one_value, none_and_some}
 use Rattle.rv32_exec.specs.NextEvent.{next_event}
 use Rattle.rv32_exec.specs.Sequential.{after_stop}
 use Rattle.rv32_exec.specs.Laws.{HasStopped}
@@ -41,7 +42,7 @@ homefree_read image cores s by c going at homefree unhurt = elim (cases_Bool c.s
   | inl straight ↦
       (let none = (going.kept.core by c at).straight_read straight in
       let long : length (memory_before image s.homefree) ≡ image.size = ap (λ r. length r.bytes) going.shown.done ∙ going.shown.long in
-      record { long = ap (λ e. length (memory_before image e)) homefree ∙ long; bytes = λ a byte is. absurd (none_some (c.outside a) byte (none a) is) })
+      record { long = ap (λ e. length (memory_before image e)) homefree ∙ long; bytes = λ a byte is. absurd (none_and_some (c.outside a) byte (none a) is) })
   | inr speculates ↦
       (let none = going.shown.unpublished (λ k d at_k. elim (cases_eq k by) [
         | inl e ↦ still_none s by k c d at speculates at_k e
@@ -53,9 +54,6 @@ homefree_read image cores s by c going at homefree unhurt = elim (cases_Bool c.s
         bytes = λ a byte is. ap (λ x. slice_index x a) same ∙ (sym (begin.same a) ∙ (going.kept.core by c at).reads_stand unhurt a byte is);
       })
 ]
-  where
-    none_some : (o : Option ℕ) (byte : ℕ) → o ≡ None → o ≡ Some byte → ⊥
-    none_some o byte none some = cc
 
 -- ---- marks
 
@@ -200,12 +198,6 @@ module _ (image : LoadedImage) (waits : Waits) (cores now : ℕ) (s : FlatState)
       | inr is ↦ inr is
     ]
 
-    none_some : (d : CoreState) → None ≡ Some d → ⊥
-    none_some d is = cc
-
-    same_epoch : (d e : ℕ) → Some d ≡ Some e → d ≡ e
-    same_epoch d e is = cc
-
     -- the core is idle
     pub leaves : ((k : ℕ) (d : CoreState) → k ≢ by → s.cores k ≡ Some d → d.hurt ≡ false → d.straight ≡ false → (a : ℕ) → is_some (d.outside a) ≡ true → shown a ≤ m.shown a)
         → IsTimed image waits cores now (s.homefree + 1) s.next_epoch (with_core s.cores by None) m'
@@ -217,12 +209,12 @@ module _ (image : LoadedImage) (waits : Waits) (cores now : ℕ) (s : FlatState)
       begun = x.begun;
       owned = λ d low. owned d (x.owned d low);
       core = λ k d is. elim (at_core s.cores by None k d is) [
-        | inl here ↦ absurd (none_some d here.1)
+        | inl here ↦ absurd (none-some d here.1)
         | inr other ↦ other_on image waits cores now s m m' by c going.kept x at alters refl unread k d other.0 other.1
       ];
       idle = λ k none d is. elim (cases_eq k by) [
         | inl e ↦
-            (let epoch = same_epoch d c.epoch (sym is ∙ (ap m.last e ∙ on.last)) in
+            (let epoch = same_Some d c.epoch (sym is ∙ (ap m.last e ∙ on.last)) in
             let commit : m'.timing.commit d ≡ now = ap m'.timing.commit epoch ∙ one_here m.timing.commit c.epoch now in
             let from : m'.from k ≡ now + 1 = ap m'.from e ∙ one_here m.from by (now + 1) in (omega (arith, epoch, homefree), omega (arith, commit, from)))
         | inr other ↦

@@ -1,6 +1,7 @@
 -- When a core begins the next epoch, all epochs that so many cores can't run beside it have committed before.
 use Rattle.std.proofs.Common.{◌≡◌, ◌≢◌, ◌⊎◌, ℕ, zero, suc, ◌+◌, ◌<◌, ◌≤◌, ◌==◌, ◌||◌, Bool, true, false, Option, Some, None, refl, sym, ap, ◌∙◌, inl, inr, true≢false, arith, eq-eqb, ne_eqb}
 use Rattle.std.proofs.lemmas.Bool.{cases_eq, cases_Bool}
+use Rattle.std.proofs.lemmas.Option.{same_Some}
 use Rattle.rv32_image.specs.Image.{LoadedImage}
 use Rattle.spec_history.specs.FlatState.{FlatState}
 use Rattle.spec_history.specs.Searches.{count_below}
@@ -23,9 +24,6 @@ one_there f at = ap (λ b. b || f at) (eq-eqb at at refl)
 one_other : (f : ℕ → Bool) (at k : ℕ) → k ≢ at → f k ≡ with_one f at k
 unfolding with_one
 one_other f at k other = sym (ap (λ b. b || f k) (ne_eqb k at other))
-
-some_one : (d e : ℕ) → Some d ≡ Some e → d ≡ e
-some_one d e is = cc
 
 -- so many cores, none of which is this one, began these epochs last
 record AreOwned (cores by first count : ℕ) (last : ℕ → Option ℕ) : Type 0 where
@@ -63,7 +61,7 @@ module _ (image : LoadedImage) (waits : Waits) (cores now : ℕ) (s : FlatState)
   one_more : (n : ℕ) → (a : AreOwned cores by first n m.last) → (k : ℕ) → k < cores → k ≢ by → m.last k ≡ Some (first + n) → AreOwned cores by first (suc n) m.last
   one_more n a k below other is =
       let fresh : (b : Bool) → a.owns k ≡ b → a.owns k ≡ false = λ b same. elim (cases_Bool (a.owns k)) [
-        | inl own ↦ (let was = a.why k own in let less = was.1 in let clash = some_one _ _ (sym was.2 ∙ is) in absurd (omega (arith, less, clash)))
+        | inl own ↦ (let was = a.why k own in let less = was.1 in let clash = same_Some _ _ (sym was.2 ∙ is) in absurd (omega (arith, less, clash)))
         | inr none ↦ none
       ] in
       let more = count_more cores k a.owns (with_one a.owns k) below (λ j apart. one_other a.owns k j apart) (fresh (a.owns k) refl) (one_there a.owns k) in

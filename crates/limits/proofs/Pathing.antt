@@ -1,6 +1,6 @@
 -- A core stays on the path of its epoch, as it accesses memory and publishes.
-use Rattle.std.proofs.Common.{◌≡◌, ℕ, ◌<◌, ◌≤◌, Bool, true, false, is_some, List, slice_index, Option, Some, None, unwrap_or, if◌then◌else◌, refl, sym, ap, subst, ◌∙◌, inl, inr, true≢false, arith}
-use Rattle.std.proofs.lemmas.Bool.{cases_Bool, cases_lt}
+use Rattle.std.proofs.Common.{◌≡◌, ℕ, ◌<◌, ◌≤◌, Bool, true, false, is_some, List, slice_index, Option, Some, None, if◌then◌else◌, refl, sym, ap, subst, ◌∙◌, inl, inr, true≢false, arith}
+use Rattle.std.proofs.lemmas.Bool.{cases_Bool, cases_lt, cond-false, cond-true}
 use Rattle.rv32_exec.specs.declared.stop.Stop.TheVariants as stop
 use Rattle.memory_bytes.specs.Bytes.{number_at}
 use Rattle.memory_bytes.specs.Maps.{first_of, joined, nothing, over, read_outside, stored}
@@ -27,27 +27,20 @@ use Rattle.limits.specs.Limits.{awaited}
 use Rattle.limits.proofs.Marks.{IsDone, IsPath, IsUnder, Marks}
 use Rattle.limits.proofs.Marking.{awaited_still}
 use Rattle.limits.proofs.Events.{at_before, at_event, event_alters, event_marks}
+use Rattle.limits.proofs.SmallFacts.{seen_by}
 
 -- ---- bytes that are committed now
 
 pub shown_by : (ℕ → Option ℕ) → (ℕ → ℕ) → ℕ → ℕ → ℕ
 shown_by bytes shown now a = if is_some (bytes a) then now else shown a
 
-by_test : (b : Bool) (now was : ℕ) → b ≡ true → (if b then now else was) ≡ now
-by_test true now was is = refl
-by_test false now was is = absurd cc
-
 pub shown_here : (bytes : ℕ → Option ℕ) (shown : ℕ → ℕ) (now a : ℕ) → is_some (bytes a) ≡ true → shown_by bytes shown now a ≡ now
 unfolding shown_by
-shown_here bytes shown now a is = by_test (is_some (bytes a)) now (shown a) is
-
-by_none : (b : Bool) (now was : ℕ) → b ≡ false → (if b then now else was) ≡ was
-by_none true now was is = absurd cc
-by_none false now was is = refl
+shown_here bytes shown now a is = cond-true (is_some (bytes a)) now (shown a) is
 
 pub shown_other : (bytes : ℕ → Option ℕ) (shown : ℕ → ℕ) (now a : ℕ) → is_some (bytes a) ≡ false → shown_by bytes shown now a ≡ shown a
 unfolding shown_by
-shown_other bytes shown now a is = by_none (is_some (bytes a)) now (shown a) is
+shown_other bytes shown now a is = cond-false (is_some (bytes a)) now (shown a) is
 
 pub shown_more : (bytes : ℕ → Option ℕ) (shown : ℕ → ℕ) (now : ℕ) → ((a : ℕ) → shown a ≤ now) → (a : ℕ) → shown a ≤ shown_by bytes shown now a
 shown_more bytes shown now past a = elim (cases_Bool (is_some (bytes a))) [
@@ -79,10 +72,6 @@ still_read image c committed address width memory stands has = record {
 some_either : (first second : Option ℕ) → is_some second ≡ true → is_some (first_of first second) ≡ true
 some_either None second is = is
 some_either (Some byte) second is = refl
-
-seen_by : (own : Option ℕ) (here there : ℕ) → (own ≡ None → here ≡ there) → unwrap_or own here ≡ unwrap_or own there
-seen_by None here there same = same refl
-seen_by (Some byte) here there same = refl
 
 none_stored : (o : Option ℕ) → (o ≡ None → ⊥) → is_some o ≡ true
 none_stored None some = absurd (some refl)

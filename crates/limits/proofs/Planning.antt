@@ -1,6 +1,6 @@
 -- A turn of a run in which loads wait for stores in order, where turns cost nothing, beside a timing: no step comes later.
 use Rattle.std.proofs.Common.{◌≡◌, ◌≢◌, ℕ, ◌+◌, ◌-◌, ◌<◌, ◌≤◌, ◌==◌, ◌&&◌, ◌||◌, not, Bool, true, false, List, ◌++◌, Some, None, if◌then◌else◌, refl, sym, ap, subst, ◌∙◌, inl, inr, arith, eq-eqb, ne_eqb}
-use Rattle.std.proofs.lemmas.Bool.{cases_Bool, cases_eq, cases_lt}
+use Rattle.std.proofs.lemmas.Bool.{cases_Bool, cases_eq, cases_lt, and_right}
 use Rattle.rv32_exec.specs.declared.stop.Stop.{Stop}
 use Rattle.rv32_exec.specs.declared.stop.Stop.TheVariants as stop
 use Rattle.rv32_image.specs.Image.{LoadedImage}
@@ -42,10 +42,6 @@ use Rattle.limits.proofs.Quiet.{After, AreQuiet, Began, Committed, IsAccess, IsQ
 use Rattle.limits.proofs.Quiet as quiet
 use Rattle.limits.proofs.QuietRuns.{IsTurn}
 use Rattle.limits.proofs.QuietTurns.{Waited}
-
-and_none : (b : Bool) → (b && false) ≡ false
-and_none true = refl
-and_none false = refl
 
 -- a turn costs nothing, and begins as soon as it is due and the one before it has begun
 module _ {S : Type 0} (paced : Pacing S) (view : S → StoreView) (waits : S → StoreWaits) (costless : paced.pricing ≡ None) (old mid : Driver S) (p : Pace) (t : Turn) (s : FlatState)
@@ -138,7 +134,7 @@ module _ {S : Type 0} (paced : Pacing S) (view : S → StoreView) (waits : S →
   store_unheld : (k : ℕ) (c : CoreState) (address width value : ℕ) → s.cores k ≡ Some c → (next_event image c.hart).at ≡ stop.Store address width value
       → held_in paced.holds old.book p.held k ≡ false
   store_unheld k c address width value at next =
-      run_held k c at ∙ (ap (λ a. not (c.epoch == s.homefree) && waits_by paced.holds s.homefree c.epoch c.own (next_event image c.hart).now.pc a) next ∙ and_none (not (c.epoch == s.homefree)))
+      run_held k c at ∙ (ap (λ a. not (c.epoch == s.homefree) && waits_by paced.holds s.homefree c.epoch c.own (next_event image c.hart).now.pc a) next ∙ and_right (not (c.epoch == s.homefree)) false refl)
 
   -- ---- the turn isn't late
 

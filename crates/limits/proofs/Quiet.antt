@@ -1,11 +1,11 @@
 -- In a run in which each load waits for what earlier epochs store in order, over a store without caches in which no access waits: no core
 -- is hurt, and each is on the path of its epoch in order.
-use Rattle.std.proofs.Common.{◌≡◌, ◌≢◌, ℕ, ◌+◌, ◌<◌, ◌≤◌, ◌&&◌, nat_le, nat_lt, is_none, Bool, true, false, cond, is_some, List, [], ◌++◌, slice_index, Option, Some, None, unwrap_or, if◌then◌else◌, refl, sym, ap, subst, ◌∙◌, inl, inr, true≢false, arith, eq-eqb}
+use Rattle.std.proofs.Common.{◌≡◌, ◌≢◌, ℕ, ◌+◌, ◌<◌, ◌≤◌, ◌&&◌, nat_le, nat_lt, is_none, Bool, true, false, cond, is_some, List, [], ◌++◌, slice_index, Option, Some, None, if◌then◌else◌, refl, sym, ap, subst, ◌∙◌, inl, inr, true≢false, arith, eq-eqb}
 use Rattle.std.proofs.Math.Path.{fun_ext}
-use Rattle.std.proofs.lemmas.Bool.{cases_Bool, cases_eq}
+use Rattle.std.proofs.lemmas.Bool.{cases_Bool, cases_eq, cond-false}
+use Rattle.std.proofs.lemmas.Option.{same_Some}
 use Rattle.rv32_exec.specs.declared.stop.Stop.{Stop}
 use Rattle.rv32_exec.specs.declared.stop.Stop.TheVariants as stop
-use Rattle.rv32_exec.specs.declared.sequential.End.{End}
 use Rattle.rv32_exec.specs.declared.sequential.End.TheVariants as end
 use Rattle.memory_bytes.specs.Bytes.{number_at}
 use Rattle.memory_bytes.specs.Maps.{first_of, joined, over, read_outside, stored}
@@ -41,6 +41,7 @@ use Rattle.even_speed.specs.Held.{Holding, is_held}
 use Rattle.even_speed.proofs.Moving.{hurts_calm, restarts_in}
 use Rattle.limits.specs.HeldBound.{HoldsInOrder}
 use Rattle.limits.proofs.Unstored.{IsStored, IsUnstored, all_long, at_least, less_than, none_is, reads_unstored, unstored_same}
+use Rattle.limits.proofs.SmallFacts.{seen_by}
 
 -- a core that runs an epoch
 pub record IsQuiet (image : LoadedImage) (homefree : ℕ) (c : CoreState) : Type 0 where
@@ -111,13 +112,6 @@ none_hurt hurt never = fun_ext (λ k. elim (cases_Bool (hurt k)) [ inl is ↦ ab
 still_same : (hurt : ℕ → Bool) (o : Option CoreState) (k : ℕ) → hurt ≡ (λ j. false) → hurt_if (hurt k) o ≡ o
 still_same hurt o k none = ap (λ (f : ℕ → Bool). hurt_if (f k) o) none
 
-seen_by : (own : Option ℕ) (here there : ℕ) → (own ≡ None → here ≡ there) → unwrap_or own here ≡ unwrap_or own there
-seen_by None here there same = same refl
-seen_by (Some byte) here there same = refl
-
-some_same : (c d : CoreState) → Some c ≡ Some d → c ≡ d
-some_same c d is = cc
-
 -- what a load reads from outside
 parts_by : (low high none : Bool) (here byte : ℕ) → cond ((low && high) && none) (Some here) None ≡ Some byte → (low ≡ true) × (high ≡ true) × (none ≡ true)
 parts_by true true true here byte is = (refl, refl, refl)
@@ -174,7 +168,7 @@ module _ (image : LoadedImage) (cores core : ℕ) (s : FlatState) (v w : StoreVi
           agrees = y.agrees;
           going = still;
           quiet = quiet_with image core s.homefree s.homefree s.cores (Some (begun image s.next_epoch)) (omega arith) (λ k c other at. quiet k c at)
-              (λ c at. subst (IsQuiet image s.homefree) (some_same (begun image s.next_epoch) c at) (begun_quiet image s.homefree s.next_epoch is));
+              (λ c at. subst (IsQuiet image s.homefree) (same_Some (begun image s.next_epoch) c at) (begun_quiet image s.homefree s.next_epoch is));
           others = λ k other. with_core_other s.cores core (Some (begun image s.next_epoch)) k other;
           calm = restarts_in core [] (record { by = core; what = what.Start s.next_epoch }) tt;
         },
@@ -250,7 +244,7 @@ module _ (image : LoadedImage) (cores core : ℕ) (s : FlatState) (v w : StoreVi
               going = still;
               quiet = quiet_with image core s.homefree s.homefree t.cores (Some new) (omega arith)
                   (λ k d other at_k. quiet k d (sym (still_same hurt (s.cores k) k free) ∙ at_k))
-                  (λ d at_d. subst (IsQuiet image s.homefree) (some_same new d at_d) new_quiet);
+                  (λ d at_d. subst (IsQuiet image s.homefree) (same_Some new d at_d) new_quiet);
               others = λ k other. with_core_other t.cores core (Some new) k other ∙ still_same hurt (s.cores k) k free;
               calm = restarts_in core (hurts cores s core hurt) (record { by = core; what = what.Load address width value }) (hurts_calm core hurt (epoch_on s.cores) cores);
             },
@@ -292,7 +286,7 @@ module _ (image : LoadedImage) (cores core : ℕ) (s : FlatState) (v w : StoreVi
               going = still;
               quiet = quiet_with image core s.homefree s.homefree t.cores (Some new) (omega arith)
                   (λ k d other at_k. quiet k d (sym (still_same hurt (s.cores k) k free) ∙ at_k))
-                  (λ d at_d. subst (IsQuiet image s.homefree) (some_same new d at_d) new_quiet);
+                  (λ d at_d. subst (IsQuiet image s.homefree) (same_Some new d at_d) new_quiet);
               others = λ k other. with_core_other t.cores core (Some new) k other ∙ still_same hurt (s.cores k) k free;
               calm = restarts_in core (hurts cores s core hurt) (record { by = core; what = what.Store address width value }) (hurts_calm core hurt (epoch_on s.cores) cores);
             },
@@ -343,10 +337,6 @@ module _ (image : LoadedImage) (cores core : ℕ) (s : FlatState) (v w : StoreVi
       never_hurt : (between : StoreView) (hurt : ℕ → Bool) → publishes_unless c.straight v between core hurt → (k : ℕ) → hurt k ≡ true → ⊥
       never_hurt between hurt p = never_by between hurt c.straight refl p
 
-      no_end : (b : Bool) (e : End) (o : Option End) → b ≡ false → o ≡ None → cond b (Some e) o ≡ None
-      no_end true e o fails none = absurd (true≢false fails)
-      no_end false e o fails none = none
-
       pub commits : (between : StoreView) (hurt : ℕ → Bool) → publishes_unless c.straight v between core hurt → (next_event image c.hart).at ≡ stop.Ended
           → exits image (next_event image c.hart).now ≡ false → end_at image (s.homefree + 1) ≡ None → Ends between w core
           → (u : FlatState) × After image cores core s u (hurts cores s core hurt ++ entry core what.Commit) w × Committed image s u core
@@ -359,7 +349,7 @@ module _ (image : LoadedImage) (cores core : ℕ) (s : FlatState) (v w : StoreVi
             record {
               replays = y.replays;
               agrees = y.agrees;
-              going = no_end (exits image (next_event image c.hart).now) (end.Exit s.homefree) (end_at image (s.homefree + 1)) stays more;
+              going = cond-false (exits image (next_event image c.hart).now) (Some (end.Exit s.homefree)) (end_at image (s.homefree + 1)) stays ∙ more;
               quiet = quiet_with image core s.homefree (s.homefree + 1) t.cores None (omega arith)
                   (λ k d other at_k. quiet k d (sym (still_same hurt (s.cores k) k free) ∙ at_k)) (λ d none. absurd (none_and_some None d refl none));
               others = λ k other. with_core_other t.cores core None k other ∙ still_same hurt (s.cores k) k free;

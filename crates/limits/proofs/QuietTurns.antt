@@ -1,5 +1,6 @@
 -- What a turn does in a run in which no core is hurt, and no access waits.
-use Rattle.std.proofs.Common.{◌≡◌, ◌≢◌, ◌⊎◌, ℕ, zero, suc, ◌+◌, ◌<◌, ◌≤◌, ◌==◌, Bool, true, false, cond, List, [], ◌∷◌, ◌++◌, Option, Some, None, IsSome, if◌then◌else◌, refl, sym, subst, ◌∙◌, inl, inr, true≢false, arith, eqb-true}
+use Rattle.std.proofs.Common.{◌≡◌, ◌≢◌, ◌⊎◌, ℕ, zero, suc, ◌+◌, ◌<◌, ◌≤◌, ◌==◌, Bool, true, false, cond, List, [], ◌∷◌, ◌++◌, Option, Some, None, IsSome, refl, sym, subst, ◌∙◌, inl, inr, true≢false, arith, eqb-true}
+use Rattle.std.proofs.lemmas.Option.{cond_some}
 use Rattle.rv32_exec.specs.declared.stop.Stop.{Stop}
 use Rattle.rv32_exec.specs.declared.stop.Stop.TheVariants as stop
 use Rattle.rv32_exec.specs.declared.sequential.End.{End}
@@ -88,10 +89,6 @@ wait_never core (stop.Store address width value) cause is = absurd cc
 wait_never core stop.Ended cause is = absurd cc
 wait_never core (stop.Fault cause' pc) cause is = absurd cc
 
-last_by : (b : Bool) (e x : End) → (if b then Some x else None) ≡ Some e → b ≡ true
-last_by true e x some = refl
-last_by false e x some = absurd cc
-
 stale_not : (image : LoadedImage) (next : Option Arrival) (hart : HartState) → next ≡ Some (arrival_of image hart) → IsStale next hart → ⊥
 stale_not image next hart is stale = (subst (λ o. IsStale o hart) is stale) refl
 
@@ -179,7 +176,7 @@ module _ (t : Turn) (holds : Holding) (h : HoldsInOrder t.image holds) (v w : St
     ran = at;
     epoch = homefree;
     ends = subst IsEnd (sym next) tt;
-    all = by_last c at homefree (eqb-true (s.homefree + 1) t.image.epochs (last_by (s.homefree + 1 == t.image.epochs) e (end.Done (s.homefree + 1)) some));
+    all = by_last c at homefree (eqb-true (s.homefree + 1) t.image.epochs (cond_some (s.homefree + 1 == t.image.epochs) (end.Done (s.homefree + 1)) e some).0);
     calm = restarts_in t.core (turn.hurts_of t l_hurt) (record { by = t.core; what = what.Commit }) (hurts_calm t.core l_hurt (epoch_on s.cores) t.cores);
   }
 

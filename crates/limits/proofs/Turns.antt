@@ -1,5 +1,6 @@
 -- What a turn of a run makes of the timing of its epochs.
 use Rattle.std.proofs.Common.{◌≡◌, ℕ, ◌+◌, ◌-◌, ◌<◌, ◌≤◌, ◌==◌, Bool, true, false, List, [], ◌++◌, Option, Some, None, IsSome, if◌then◌else◌, refl, sym, subst, eqb-true}
+use Rattle.std.proofs.lemmas.Option.{cond_some}
 use Rattle.rv32_exec.specs.declared.stop.Stop.TheVariants as stop
 use Rattle.rv32_exec.specs.declared.sequential.End.{End}
 use Rattle.rv32_exec.specs.declared.sequential.End.TheVariants as end
@@ -88,16 +89,12 @@ module _ (t : Turn) (kind : Waits) (now : ℕ) (m : Marks) (v w : StoreView) (hi
 
   -- ---- the homefree core
 
-  last_by : (b : Bool) (e x : End) → (if b then Some x else None) ≡ Some e → b ≡ true
-  last_by true e x some = refl
-  last_by false e x some = absurd cc
-
   left_by : (entries : List Entry) (o : Option End) → end_at t.image (s.homefree + 1) ≡ o
       → (end_at t.image (s.homefree + 1) ≡ None → Went t.image kind t.cores now t.core 0 s m entries w)
       → (s.homefree + 1 ≡ t.image.epochs → IsBound t.image kind t.cores (now + 1))
       → To (does entries (left_or_over o))
   left_by entries None none goes over = goes none
-  left_by entries (Some e) some goes over = over (eqb-true (s.homefree + 1) t.image.epochs (last_by (s.homefree + 1 == t.image.epochs) e (end.Done (s.homefree + 1)) some))
+  left_by entries (Some e) some goes over = over (eqb-true (s.homefree + 1) t.image.epochs (cond_some (s.homefree + 1 == t.image.epochs) (end.Done (s.homefree + 1)) e some).0)
 
   committed : (out : Outcome) → turn.IsCommit t v w out → To out
   committed out l =

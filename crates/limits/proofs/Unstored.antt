@@ -1,6 +1,6 @@
 -- What no epoch stores in order from one epoch on is the same before a later one; and a core that isn't held reads nothing else.
-use Rattle.std.proofs.Common.{◌≡◌, ◌⊎◌, ℕ, zero, suc, ◌+◌, ◌-◌, ◌<◌, ◌≤◌, ◌==◌, ◌&&◌, ◌||◌, not, nat_le, nat_lt, is_none, Bool, true, false, length, slice_index, Option, Some, None, refl, sym, ap, subst, ◌∙◌, inl, inr, true≢false, arith, add-one, eq-eqb, ne_eqb, le-leb}
-use Rattle.std.proofs.lemmas.Bool.{cases_eq}
+use Rattle.std.proofs.Common.{◌≡◌, ◌⊎◌, ℕ, zero, suc, ◌+◌, ◌-◌, ◌<◌, ◌≤◌, ◌==◌, ◌&&◌, not, nat_le, nat_lt, is_none, Bool, true, false, length, slice_index, Option, Some, None, refl, sym, ap, subst, ◌∙◌, inl, inr, true≢false, arith, add-one, eq-eqb, ne_eqb, le-leb}
+use Rattle.std.proofs.lemmas.Bool.{cases_eq, or_right}
 use Rattle.std.proofs.lemmas.Bool.Decides.{nat_tests}
 use Rattle.std.proofs.lemmas.List.Folds.{list_any_at}
 use Rattle.rv32_exec.specs.declared.stop.Stop.TheVariants as stop
@@ -70,10 +70,6 @@ pub none_is : (o : Option ℕ) → is_none o ≡ true → o ≡ None
 none_is None is = refl
 none_is (Some byte) is = absurd cc
 
-or_true : (a b : Bool) → b ≡ true → (a || b) ≡ true
-or_true true b is = refl
-or_true false b is = is
-
 -- ---- a core that isn't held
 
 module _ (image : LoadedImage) (holds : Holding) (h : HoldsInOrder image holds) where
@@ -101,6 +97,6 @@ module _ (image : LoadedImage) (holds : Holding) (h : HoldsInOrder image holds) 
       (subst (λ n. (is_none (own n) && is_stored holds homefree epoch (holds.piece n)) ≡ true) sum
       (both (is_none (own a)) (is_stored holds homefree epoch (holds.piece a)) (ap (λ o. is_none o) none) here)) in
       let waits : waits_by holds homefree epoch own pc (next_event image hart).at ≡ true =
-      ap (waits_by holds homefree epoch own pc) next ∙ or_true (holds.places pc) (reads_stored holds homefree epoch own address width) reads in
+      ap (waits_by holds homefree epoch own pc) next ∙ or_right (holds.places pc) (reads_stored holds homefree epoch own address width) reads in
       true≢false (sym (both (not (epoch == homefree)) (waits_by holds homefree epoch own pc (next_event image hart).at)
       (ap (λ b. not b) (ne_eqb epoch homefree (λ same. omega (arith, same, low, before)))) waits) ∙ free)
