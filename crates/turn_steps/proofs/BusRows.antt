@@ -15,8 +15,9 @@ use Rattle.spec_states.proofs.MaskLaws.{has-zero}
 use Rattle.cache_lines.specs.declared.line.Line.{Line}
 use Rattle.cache_lines.specs.Lines.{Contents, Geometry, geometry_of, invalid_line}
 use Rattle.rv32_image.specs.declared.machine.Machine.{Machine}
-use Rattle.rv32_image.specs.Machine.{is_line_length, IsMachine}
+use Rattle.rv32_image.specs.Machine.{IsMachine}
 use Rattle.rv32_image.specs.Places.{of_places, place}
+use Rattle.rv32_image.proofs.Bounds.{place_in}
 use Rattle.cache_lines.specs.Lines as lines
 use Rattle.cache_lines.specs.Protocol.{copy_or_none, copy_at}
 use Rattle.cache_lines.proofs.LineLaws.{is_copy_of-true, by_way, row-lt, sets-within}
@@ -140,11 +141,12 @@ module _ (image_machine : Machine) (image_size : ℕ) (v : CachedView) (core a :
       ap (λ (o : Option Core). (state_or_none o).geometry) (sym is) ∙ (coherent.geometries core below ∙ (coherent.geometry_is ∙ ap geometry_of (sym machine_is))) in
       let way : found.0 < machine.ways = subst (λ (g : Geometry). found.0 < g.ways) geometry_is found.1 in
       let sets = sets-within machine.sets allowed.sets in
+      let some : 0 < size = omega (arith, place_in size 0 allowed.line_length) in
       let place = addr / size % machine.sets * machine.ways + found.0 in
       let within : place < place_count machine = row-lt machine.sets machine.ways (addr / size % machine.sets) found.0 (mod-lt (addr / size) sets.0) way in
       let set_is : place / machine.ways * size / size % machine.sets ≡ addr / size % machine.sets =
       ap (λ n. n * size / size % machine.sets) (div-mul-add (addr / size % machine.sets) machine.ways found.0 way)
-      ∙ (ap (λ n. n % machine.sets) (mul-div_cancel (addr / size % machine.sets) (positive size allowed.line_length)) ∙ mod-eq_of_lt (mod-lt (addr / size) sets.0)) in
+      ∙ (ap (λ n. n % machine.sets) (mul-div_cancel (addr / size % machine.sets) some) ∙ mod-eq_of_lt (mod-lt (addr / size) sets.0)) in
       let way_is : place % machine.ways ≡ found.0 = mod-mul-add (addr / size % machine.sets) machine.ways found.0 way in
       let same : lines.line_in c.cache addr found.0 ≡ line_at machine v core place =
       ap (λ n. standing c.cache n c.cache.geometry addr found.0) length_is
@@ -155,9 +157,6 @@ module _ (image_machine : Machine) (image_size : ℕ) (v : CachedView) (core a :
       ∙ (ap (λ n. standing c.cache n c.cache.geometry (place / machine.ways * size) (place % machine.ways)) (sym length_is)
       ∙ ap (λ (o : Option Core). line_of_core o (place / machine.ways * size) (place % machine.ways)) (sym is)))))) in
       in_place place within (ap (λ (l : Line). l.addr) (sym same) ∙ found.2) (ap (λ (l : Line). has l.marks.bytes (at % size)) (sym same) ∙ found.3)
-    where
-      positive : (n : ℕ) → is_line_length n ≡ true → 0 < n
-      positive n is = grind (arith, nat_tests)
 
   -- the set has the row of a byte that the core has stored
   pub has_own_row : has ((state_or_none (slice_get v.cores core)).copy (size * (at / size))).marks.bytes (at % size) ≡ true → contains nat_cmp rows (a / 16) ≡ true

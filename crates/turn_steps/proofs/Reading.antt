@@ -1,7 +1,6 @@
 -- Rows read byte by byte, and what a core keeps of them.
-use Rattle.std.proofs.Common.{◌≡◌, ℕ, zero, suc, ◌+◌, ◌*◌, ◌^◌, ◌<◌, ◌==◌, Bool, true, false, not, List, [], ◌∷◌, ◌++◌, length, take, replicate, slice_set, if◌then◌else◌, Option, Some, None, is_some, unwrap_or, refl, ap, sym, subst, ◌∙◌, arith, add-one, ⊎_elim}
-use Rattle.std.proofs.lemmas.Bool.{cases_eq}
-use Rattle.std.proofs.lemmas.Bool.Decides.{nat_tests}
+use Rattle.std.proofs.Common.{◌≡◌, ℕ, zero, suc, ◌+◌, ◌*◌, ◌^◌, ◌<◌, ◌==◌, Bool, true, false, List, [], ◌∷◌, ◌++◌, length, take, replicate, slice_set, if◌then◌else◌, Option, Some, None, is_some, unwrap_or, refl, ap, sym, subst, ◌∙◌, arith, add-one, ⊎_elim}
+use Rattle.std.proofs.lemmas.Bool.{cases_eq, eqb-true, not-false}
 use Rattle.std.proofs.lemmas.List.{length-set, take_all, take_more_set}
 use Rattle.std.proofs.lemmas.Nat.{pow_pos}
 use Rattle.std.specs.Option.{IfSome}
@@ -147,9 +146,8 @@ none_in bytes address (suc count) none i less =
     (λ other. none_in bytes address count (omega arith) i (omega arith))
     (cases_eq i count)
 
-is_zero : (n : ℕ) → not (n == 0) ≡ false → n ≡ 0
-is_zero n none_is = grind (arith, nat_tests)
-
 -- where a core has stored no byte of a row
 pub not_owned : (v : StoreView) (core row : ℕ) → owns_in v core row ≡ false → (i : ℕ) → i < 16 → v.own core (16 * row + i) ≡ false
-not_owned v core row none_is i less = none_in (v.own core) (16 * row) 16 (is_zero (mask_from (v.own core) (16 * row) 16) none_is) i less
+not_owned v core row none_is i less =
+    let mask = mask_from (v.own core) (16 * row) 16 in
+    none_in (v.own core) (16 * row) 16 (eqb-true mask 0 (not-false (mask == 0) none_is)) i less

@@ -2,11 +2,12 @@
 use Rattle.std.proofs.Common.{◌≡◌, ℕ, zero, suc, ◌*◌, ◌/◌, ◌%◌, ◌<◌, ◌≤◌, ◌==◌, ◌&&◌, ◌++◌, Bool, true, false, true≢false, List, Option, Some, None, option_map, length, slice_get, inl, inr, refl, sym, ap, subst, ◌∙◌, arith}
 use Rattle.std.specs.List.{find, range_with_len}
 use Rattle.std.proofs.Math.Nat.{mod-lt, mod-eq_of_lt, mul-div_cancel, div-lt_iff_lt-mul}
-use Rattle.std.proofs.lemmas.Bool.{and_parts, false_from_ne_true}
+use Rattle.std.proofs.lemmas.Bool.{and_parts, false_from_ne_true, eqb-true}
 use Rattle.std.proofs.lemmas.Bool.Decides.{nat_tests}
 use Rattle.std.proofs.lemmas.Option.{slice_get_cases}
 use Rattle.rv32_image.specs.declared.machine.Machine.{Machine}
-use Rattle.rv32_image.specs.Machine.{is_line_length, IsMachine}
+use Rattle.rv32_image.specs.Machine.{IsMachine}
+use Rattle.rv32_image.proofs.Bounds.{place_in}
 use Rattle.spec_states.specs.Copies.{LineCopy}
 use Rattle.spec_states.specs.States.{is_valid}
 use Rattle.cache_lines.specs.declared.line.Line.{Line}
@@ -31,15 +32,9 @@ use Rattle.turn_steps.proofs.Places.{way_changes-same}
 both : (m n p q : ℕ) → m ≡ n → p ≡ q → ((m == n) && (p == q)) ≡ true
 both m n p q e f = grind (arith, nat_tests)
 
-equal : (m n : ℕ) → (m == n) ≡ true → m ≡ n
-equal m n e = grind (arith, nat_tests)
-
 its_way : (w : ℕ) (o : Option ℕ) → is_way w o ≡ true → o ≡ Some w
 its_way w None e = absurd cc
-its_way w (Some v) e = ap (λ (v : ℕ). Some v) (equal v w e)
-
-positive : (n : ℕ) → is_line_length n ≡ true → 0 < n
-positive n is = grind (arith, nat_tests)
+its_way w (Some v) e = ap (λ (v : ℕ). Some v) (eqb-true v w e)
 
 module _ (cache : Contents) (placed : IsPlaced cache) (size place : ℕ) (there : place < cache.geometry.sets * cache.geometry.ways)
     (inside : (a : ℕ) → is_valid (copy_at cache a).state ≡ true → a < size) where
@@ -66,13 +61,15 @@ module _ (cache : Contents) (placed : IsPlaced cache) (size place : ℕ) (there 
   set_lt = (div-lt_iff_lt-mul placed.geometry_is.some_way).1 there
 
   set_is : set_of cache first ≡ set
-  set_is = ap (λ n. n % cache.geometry.sets) (mul-div_cancel set (positive cache.line_length placed.length_is)) ∙ mod-eq_of_lt set_lt
+  set_is =
+      let some : 0 < cache.line_length = omega (arith, place_in cache.line_length 0 placed.length_is) in
+      ap (λ n. n % cache.geometry.sets) (mul-div_cancel set some) ∙ mod-eq_of_lt set_lt
 
   -- then it is the line's
   is_its : (a : ℕ) → stands a ≡ true → is_copy_of line a ≡ true
   is_its a e =
       let two = and_parts (a / cache.line_length % cache.geometry.sets == set) (is_way way (way_at cache a)) e in
-      let same_set : set_of cache a ≡ set_of cache first = equal (set_of cache a) set two.0 ∙ sym set_is in
+      let same_set : set_of cache a ≡ set_of cache first = eqb-true (set_of cache a) set two.0 ∙ sym set_is in
       let found = found_first 0 cache.geometry.ways (λ w. is_copy_of (line_in cache a w) a) way (its_way way (way_at cache a) two.1) in
       ap (λ (l : Line). is_copy_of l a) (line_in-same_set cache a first way same_set) ∙ found.passes
 
@@ -133,7 +130,7 @@ standing_core machine v core place coherent allowed machine_is below placed ther
         let size = (bus v).shape.size in
         let inside : (a : ℕ) → is_valid (copy_at c.cache a).state ≡ true → a < size = λ a valid.
         let fits = coherent.inside core a (ap (λ (o : Option Core). is_valid ((state_or_none o).copy a).state) is ∙ valid) in
-        let some = positive (bus v).line_length coherent.length_is in
+        let some = place_in (bus v).line_length 0 coherent.length_is in
         omega (arith, fits, some) in
         let within : place < c.cache.geometry.sets * c.cache.geometry.ways = subst (λ (g : Geometry). place < g.sets * g.ways) (sym geometry_is) there in
         ap (λ (o : Option Core). standing (line_of_core o (place / machine.ways * machine.line_length) (place % machine.ways))) is
