@@ -1,6 +1,6 @@
 -- The number that digits write, by the library's reading of it.
-use Rattle.std.proofs.Common.{◌≡◌, ℕ, ◌<◌, ◌^◌, nat_lt, not, ◌==◌, ◌&&◌, ◌||◌, Bool, true, false, cond, List, length, slice_index, Some, None, Ok, Err, refl, sym, ap, ◌∙◌, rules, arith}
-use Rattle.std.proofs.lemmas.Bool.{false_from_ne_true}
+use Rattle.std.proofs.Common.{◌≡◌, ℕ, ◌<◌, ◌^◌, nat_lt, not, ◌==◌, ◌&&◌, ◌||◌, true, false, cond, List, length, slice_index, Some, None, Ok, Err, sym, ap, ◌∙◌, rules, arith}
+use Rattle.std.proofs.lemmas.Bool.{false_from_ne_true, and_parts}
 use Rattle.std.proofs.lemmas.Bool.Decides.{Decides-ltb, nat_tests}
 use Rattle.std.proofs.lemmas.Str.Parse.{IsDigitsTest, IsNumeralModel, numerals_by_value, parse_digits}
 use Rattle.std.specs.Char.{is_ascii_digit}
@@ -17,17 +17,11 @@ are_digits = search rules
 numerals : IsNumeralModel AreDigits (digits_value 10)
 numerals = numerals_by_value AreDigits are_digits
 
-both : (a b : Bool) → (a && b) ≡ true → (a ≡ true) × (b ≡ true)
-both true true is = (refl, refl)
-both true false is = absurd cc
-both false true is = absurd cc
-both false false is = absurd cc
-
 -- they are digits, and there is one
 of_decimal : (word : List ℕ) → is_decimal word ≡ true → AreDigits word × (0 < length word)
 of_decimal word is =
-    let parts = both (not (length word == 0) && list_all is_ascii_digit word) (length word == 1 || not (slice_index word 0 == 48)) is in
-    let some = both (not (length word == 0)) (list_all is_ascii_digit word) parts.0 in
+    let parts = and_parts (not (length word == 0) && list_all is_ascii_digit word) (length word == 1 || not (slice_index word 0 == 48)) is in
+    let some = and_parts (not (length word == 0)) (list_all is_ascii_digit word) parts.0 in
     let there : not (length word == 0) ≡ true = some.0 in
     (some.1, grind (arith, nat_tests))
 

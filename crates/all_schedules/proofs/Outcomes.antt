@@ -1,12 +1,12 @@
 -- What the replay of a text comes to, from what its parts answer.
-use Rattle.std.proofs.Common.{◌≡◌, ℕ, ◌+◌, ◌<◌, List, length, replicate, Option, Some, None, Result, Ok, IfSome, MatchResult, inl, refl, sym, subst, arith}
-use Rattle.std.proofs.lemmas.List.{length-replicate}
+use Rattle.std.proofs.Common.{◌≡◌, ℕ, ◌<◌, List, length, Option, Some, None, Result, Ok, IfSome, MatchResult, inl, refl, sym, subst}
 use Rattle.rv32_image.specs.declared.fault.ImageFault.{ImageFault}
 use Rattle.rv32_image.specs.declared.input.InputFault.{InputFault}
 use Rattle.rv32_image.specs.declared.input.InputFault.TheVariants as input
 use Rattle.rv32_image.specs.Image.{LoadedImage}
 use Rattle.rv32_image.specs.ImageText.{image_text}
 use Rattle.rv32_image.specs.Reading.{ForText}
+use Rattle.rv32_image.proofs.Inputs.{long_text}
 use Rattle.spec_history.specs.declared.entry.Entry.{Entry}
 use Rattle.violations.specs.View.{StoreView, Waits}
 use Rattle.violations.specs.Calls.{Call}
@@ -41,10 +41,6 @@ module _ {S : Type 0} (starts : LoadedImage → ℕ → S → Type 0) (makes : S
   refused input.TooLong text output long = (inl (refl, long refl), keeps_itself output)
   refused input.Read text output long = (inl refl, keeps_itself output)
   refused input.NoMemory text output long = inl (keeps_itself output)
-
-  -- a text that is longer than this
-  long_text : (n : ℕ) → (text : List ℕ) × (n < length text)
-  long_text n = (replicate (n + 1) 0, omega (arith, length-replicate {A = ℕ} (n + 1) 0))
 
   -- an input that could not be read whole
   pub refused_input : (known : Option (List ℕ)) (fault : InputFault) (output : Option (List ℕ))
