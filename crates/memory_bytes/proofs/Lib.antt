@@ -1,3 +1,4 @@
+pub mod SmallFacts
 pub mod Bytes
 pub mod Shadows
 pub mod Stores

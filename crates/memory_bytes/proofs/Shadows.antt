@@ -3,6 +3,7 @@ use Rattle.std.proofs.Common.{◌≡◌, ◌⊎◌, ℕ, zero, suc, ◌+◌, ◌
 use Rattle.std.proofs.lemmas.Bool.{cases_eq, cases_lt}
 use Rattle.std.proofs.lemmas.List.{get_or_append_left, get_or_default, get_or_past, get_or_push, get_or_read, length-replicate, length_push, replicate-append-replicate, take_all}
 use Rattle.std.proofs.lemmas.Option.{none-some}
+use Rattle.memory_bytes.proofs.SmallFacts.{none_by}
 use Rattle.memory_bytes.specs.Shadow.{byte_in, noted, padded, Covers, IsShadow}
 
 -- one more address without a byte
@@ -19,10 +20,6 @@ pub record Left (cells : List (Option ℕ)) (addresses : List ℕ) (from : ℕ) 
 
 taken : (cells : List (Option ℕ)) (addr a byte : ℕ) → a ≡ addr → addr < length cells → byte_in (set cells addr None) a ≡ Some byte → ⊥
 taken cells addr a byte e within some = let none = get_or-set_same cells addr None None within in let at = ap (byte_in (set cells addr None)) e in absurd (grind (arith, none, at, some))
-
-none_by : (cell : Option ℕ) → ((byte : ℕ) → cell ≡ Some byte → ⊥) → cell ≡ None
-none_by None none = refl
-none_by (Some byte) none = absurd (none byte refl)
 
 -- at the end none is left
 pub none_left : (cells : List (Option ℕ)) (addresses : List ℕ) (from : ℕ) → length addresses ≤ from → Left cells addresses from → (a : ℕ) → byte_in cells a ≡ None
