@@ -47,6 +47,11 @@ pub number_up : (n a b : ℕ) → a ≤ b → a / n ≤ b / n
 number_up zero a b up = omega arith
 number_up (suc n) a b up = let first = div-mul-le_self a (suc n) in le-div (a / suc n) b (suc n) (omega arith) (omega (arith, first, up))
 
+-- the line of a byte that stands in a line of its own behind whole lines of memory
+pub behind_line : (n size q r : ℕ) → is_line_length n ≡ true → size % n ≡ 0 → r < n → (size + (q * n + r)) / n ≡ size / n + q
+behind_line n size q r h =
+    by_length (λ n. size % n ≡ 0 → r < n → (size + (q * n + r)) / n ≡ size / n + q) n h (λ w b. omega arith) (λ w b. omega arith) (λ w b. omega arith)
+
 -- the byte stands at its place in the line of another byte that lies there
 pub byte_in_line : (n a b : ℕ) → is_line_length n ≡ true → b / n ≡ a / n → b / n * n + a % n ≡ a
 byte_in_line n a b h =

@@ -1,5 +1,5 @@
 -- The image text read from an input.
-use Rattle.std.proofs.Common.{◌≡◌, ℕ, ◌+◌, ◌<◌, List, ◌++◌, append_assoc, length, replicate, Option, Some, None, Result, Ok, Err, nat_lt, true, IfSome, refl, ap, sym, ◌∙◌, arith}
+use Rattle.std.proofs.Common.{◌≡◌, ℕ, ◌+◌, ◌<◌, List, ◌++◌, append_assoc, length, replicate, Option, Some, None, Result, Ok, Err, nat_lt, true, IfSome, MatchResult, refl, ap, subst, sym, ◌∙◌, arith}
 use Rattle.std.proofs.lemmas.Bool.Decides.{nat_tests}
 use Rattle.std.proofs.lemmas.List.{length-replicate}
 use Rattle.std.specs.Io.KnownBytes.{Consumes}
@@ -31,6 +31,10 @@ pub answers_read : (known : Option (List ℕ)) (text : List ℕ) (r : Result Loa
     → Answers (λ image. image) r (image_text text) → ForText known (λ whole. AnswersRead r (image_text whole))
 answers_read None text r whole is = (text, weaker r (image_text text) is)
 answers_read (Some input) text r whole is = rw (← whole) (weaker r (image_text text) is)
+
+-- what holds of an image holds of what a text says that says this image
+pub by_image : (text : List ℕ) (image : LoadedImage) (P : LoadedImage → Type 0) → image_text text ≡ Ok image → P image → MatchResult (image_text text) P (λ fault. ⊥)
+by_image text image P said is = subst (λ (r : Result LoadedImage ImageFault). MatchResult r P (λ fault. ⊥)) (sym said) is
 
 too_long : (text : List ℕ) → longest_image_text < length text → image_text text ≡ Err (record { line = 0; kind = TooLong })
 unfolding image_text

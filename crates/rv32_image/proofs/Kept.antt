@@ -1,8 +1,7 @@
 -- What is kept of the code's words.
-use Rattle.std.proofs.Common.{◌≡◌, ℕ, ◌+◌, ◌*◌, ◌<◌, nat_lt, Bool, true, false, cond, List, length, Some, Result, Ok, Err, slice_get, slice_index, if◌then◌else◌, refl, arith}
+use Rattle.std.proofs.Common.{◌≡◌, ℕ, ◌*◌, ◌<◌, nat_lt, Bool, true, false, cond, List, length, Some, Err, slice_get, slice_index, refl, arith}
 use Rattle.std.proofs.lemmas.Bool.Decides.{nat_tests}
 use Rattle.rv32_decode.specs.declared.instr.Instr.{Instr}
-use Rattle.rv32_decode.specs.declared.refused.Refused.{Refused}
 use Rattle.rv32_decode.specs.declared.refused.Refused.TheVariants.{Illegal}
 use Rattle.rv32_decode.specs.Table.{meaning_of}
 use Rattle.memory_bytes.specs.Bytes.{number_at}

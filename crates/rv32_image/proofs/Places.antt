@@ -5,6 +5,7 @@ use Rattle.std.proofs.lemmas.Bool.Decides.{nat_tests}
 use Rattle.std.proofs.lemmas.Nat.{div-add-mod', div-mul-add, mod-mul-add}
 use Rattle.std.proofs.lemmas.Nat.Gcd.{dvd_of_mod-eq-zero}
 use Rattle.memory_bytes.specs.Bytes.{IsWidth}
+use Rattle.memory_bytes.proofs.SmallFacts.{by_width, none_or_some, some_wide}
 use Rattle.rv32_image.specs.declared.apart.Apart.{Apart}
 use Rattle.rv32_image.specs.declared.machine.Machine.{Machine}
 use Rattle.rv32_image.specs.Machine.{is_line_length, IsMachineFor}
@@ -53,11 +54,6 @@ pub record InWord (width a i : ℕ) : Type 0 where
   pub wide : IsWidth width
   pub aligned : a % width ≡ 0
   pub inside : i < width
-
-by_width : (P : ℕ → Type 0) (width : ℕ) → IsWidth width → P 1 → P 2 → P 4 → P width
-by_width P width (inl one) of_1 of_2 of_4 = subst P (sym one) of_1
-by_width P width (inr (inl two)) of_1 of_2 of_4 = subst P (sym two) of_2
-by_width P width (inr (inr four)) of_1 of_2 of_4 = subst P (sym four) of_4
 
 -- a bound that is a multiple of 4 lies on one side of the whole word
 same_side : (bound width a i : ℕ) → bound % 4 ≡ 0 → InWord width a i → nat_lt (a + i) bound ≡ nat_lt a bound
@@ -210,16 +206,12 @@ pub place-stays : (machine : Machine) (apart : Apart) (size a : ℕ) → machine
 unfolding place
 place-stays machine apart size a is e lt = ap (by_apart machine.line_length size a) is ∙ at_inside apart machine.line_length size a e lt
 
-some_or_none : (o : Option Apart) → (o ≡ None) ⊎ ((x : Apart) × (o ≡ Some x))
-some_or_none None = inl refl
-some_or_none (Some x) = inr (x, refl)
-
 -- a fact of the places of a range, and of addresses, is one of the places of every machine
 by_places : (P : (ℕ → ℕ) → Type 0) (machine : Machine) (size : ℕ) → IsMachineFor size machine → P (λ a. a)
     → ((apart : Apart) → FitsApart size machine.line_length apart → P (place_with apart machine.line_length size)) → P (place machine size)
 unfolding place
 by_places P machine size fits none some =
-    elim (some_or_none machine.apart) [
+    elim (none_or_some machine.apart) [
       | inl is ↦ subst (λ o. P (place_by o machine.line_length size)) (sym is) none
       | inr x ↦ subst (λ o. P (place_by o machine.line_length size)) (sym x.1) (some x.0 (fits.apart x.0 x.1))
     ]
@@ -278,7 +270,7 @@ place-aligned machine size width a fits wide aligned =
     pick : (apart : Apart) (n : ℕ) → FitsApart size n apart → is_line_length n ≡ true → size % n ≡ 0 → Lies apart n size a → place_with apart n size a % width ≡ 0
     pick apart n f is whole (Apartly first last e) =
         let x : ℕ = a - apart.first in
-        let one : InWord width a 0 = record { wide = wide; aligned = aligned; inside = by_width (λ v. 0 < v) width wide (omega arith) (omega arith) (omega arith) } in
+        let one : InWord width a 0 = record { wide = wide; aligned = aligned; inside = some_wide width wide } in
         let counted = from apart.first width a 0 f.first_word first one in
         ap (λ p. p % width) (at_apart apart n size a e)
         ∙ even n (x / apart.piece) (x % apart.piece) is whole (in_part apart.piece x f.piece_words counted.aligned)
