@@ -52,6 +52,10 @@ access-within offset width length widths aligned inside line =
 pub is_within-first : (offset width : ℕ) → 0 < width → is_within offset width offset ≡ true
 is_within-first offset width some = grind (arith, nat_tests)
 
+-- a byte of the rest of an access, behind its first byte, is one of its bytes
+pub is_within-later : (offset n x : ℕ) → is_within (offset + 1) n x ≡ true → is_within offset (suc n) x ≡ true
+is_within-later offset n x e = grind (arith, nat_tests)
+
 -- ---- the mask after a store
 
 -- the test of the greater of two bits, where p says what the second is
@@ -131,13 +135,10 @@ pub has_all-from : (bytes offset width : ℕ) → ((x : ℕ) → is_within offse
 unfolding has_all
 has_all-from bytes offset zero each = refl
 has_all-from bytes offset (suc n) each =
-    and_from (has bytes offset) _ (each offset first) (has_all-from bytes (offset + 1) n (λ x e. each x (later x e)))
+    and_from (has bytes offset) _ (each offset first) (has_all-from bytes (offset + 1) n (λ x e. each x (is_within-later offset n x e)))
   where
     first : is_within offset (suc n) offset ≡ true
     first = grind (arith, nat_tests)
-
-    later : (x : ℕ) → is_within (offset + 1) n x ≡ true → is_within offset (suc n) x ≡ true
-    later x e = grind (arith, nat_tests)
 
 -- a byte of the access that is not in the mask: the mask does not have them all
 pub has_all-false : (bytes offset width x : ℕ) → is_within offset width x ≡ true → has bytes x ≡ false

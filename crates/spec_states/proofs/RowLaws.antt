@@ -319,6 +319,15 @@ speculative-valid M e = refl
 speculative-valid SpS e = refl
 speculative-valid SpE e = refl
 
+-- a line that isn't valid carries no marks
+pub invalid-unmarked : (s : LineState) → is_valid s ≡ false → is_speculative s ≡ false
+invalid-unmarked I e = refl
+invalid-unmarked S e = refl
+invalid-unmarked E e = refl
+invalid-unmarked M e = refl
+invalid-unmarked SpS e = cc
+invalid-unmarked SpE e = cc
+
 pub modified-valid : (s : LineState) → is_modified s ≡ true → is_valid s ≡ true
 modified-valid I e = cc
 modified-valid S e = refl
