@@ -12,6 +12,7 @@ use Rattle.memory_bytes.specs.Maps.{first_of, joined, over, stored, read_outside
 use Rattle.spec_history.specs.FlatState.{CoreState}
 use Rattle.spec_history.specs.Laws.{Holds, HasBytes, IsKeptCore}
 use Rattle.memory_bytes.proofs.Bytes.{over-joined, number_at_same, length-with_number, with_number_bytes}
+use Rattle.memory_bytes.proofs.SmallFacts.{seen_by}
 use Rattle.rv32_exec.proofs.Accesses.{stop_of_event}
 use Rattle.spec_history.proofs.OneEntry.Progress.{comes_past_access}
 use Rattle.spec_history.proofs.OneEntry.Keeping.{read_now, read_before, was_read, noted, noted_within}
@@ -60,17 +61,13 @@ still_by image c committed address width a byte None now before stands = before
 still_by image c committed address width a byte (Some b) now before stands = ap Some ((noted_within address width a b c.own committed now).1 ∙ stands)
 
 -- what was read before is read still
-still_read : (image : LoadedImage) (c : CoreState) (committed : ℕ → ℕ) (address width : ℕ) (memory : List ℕ)
+pub still_read : (image : LoadedImage) (c : CoreState) (committed : ℕ → ℕ) (address width : ℕ) (memory : List ℕ)
     → ((a byte : ℕ) → c.outside a ≡ Some byte → committed a ≡ byte)
     → HasBytes image (joined (read_outside address width c.own committed) c.outside) memory → HasBytes image c.outside memory
 still_read image c committed address width memory stands has = record {
   long = has.long;
   bytes = λ a byte before. has.bytes a byte (still_by image c committed address width a byte (read_outside address width c.own committed a) refl before (stands a byte before));
 }
-
-seen_by : (own : Option ℕ) (here there : ℕ) → (own ≡ None → here ≡ there) → unwrap_or own here ≡ unwrap_or own there
-seen_by None here there same = same refl
-seen_by (Some byte) here there same = refl
 
 -- the core's loaded bytes are those of its own run
 sees_alone : (image : LoadedImage) (c : CoreState) (committed : ℕ → ℕ) (address width : ℕ) (memory after : List ℕ)

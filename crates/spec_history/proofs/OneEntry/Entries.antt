@@ -225,6 +225,11 @@ hurt_straight : (image : LoadedImage) (s : FlatState) (epoch : ℕ) (shown : Sho
 hurt_straight image s epoch shown k c (was_core d at is) straight =
     rw is (shown.straight k d at (sym (ap (λ (x : CoreState). x.straight) is) ∙ straight))
 
+-- an entry that hurts leaves each core running that ran
+pub hurt_there : (epoch : ℕ) (core : Option CoreState) → is_some (hurt_at epoch core) ≡ is_some core
+hurt_there epoch None = refl
+hurt_there epoch (Some c) = refl
+
 still_hurt : (epoch : ℕ) (core : Option CoreState) (d : CoreState) → core ≡ Some d → hurt_at epoch core ≡ Some (record d { hurt = d.hurt || (d.epoch == epoch) })
 still_hurt epoch core d is = rw is refl
 
@@ -264,7 +269,7 @@ still_runs epoch None c is = absurd cc
 still_runs epoch (Some d) c is = kept_by (d.epoch == epoch) d c is
 
 -- the core of another epoch runs on
-runs_on : (epoch : ℕ) (core : Option CoreState) (d : CoreState) → core ≡ Some d → d.epoch ≢ epoch → idle_at epoch core ≡ Some d
+pub runs_on : (epoch : ℕ) (core : Option CoreState) (d : CoreState) → core ≡ Some d → d.epoch ≢ epoch → idle_at epoch core ≡ Some d
 runs_on epoch core d is other = ap (idle_at epoch) is ∙ ap (λ b. cond b None (Some d)) (ne_eqb d.epoch epoch other)
 
 pub cancel_goes_on : (image : LoadedImage) (count : ℕ) (s : FlatState) (by : ℕ) (c : CoreState) (epoch : ℕ) → Going image count s → s.cores by ≡ Some c → c.epoch < epoch

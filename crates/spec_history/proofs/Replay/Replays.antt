@@ -59,11 +59,12 @@ spares image count s by what c legal kept at k d at_k other unhurt a byte read =
     ∙ spared image count s (record { by = by; what = what }) legal.spares k d at_k other was.there unhurt a byte read (was.within a byte read)
 
 -- a core that runs and passes a test
-record Runs_and (core : Option CoreState) (c : CoreState) (test : CoreState → Bool) : Type 0 where
+pub record RunsAnd (core : Option CoreState) (c : CoreState) (test : CoreState → Bool) : Type 0 where
   pub unhurt : c.hurt ≡ false
   pub passes : test c ≡ true
 
-runs_so : (core : Option CoreState) (c : CoreState) (test : CoreState → Bool) → core ≡ Some c → runs_and core test ≡ true → Runs_and core c test
+-- so it is where the test of running and of passing says so
+pub runs_so : (core : Option CoreState) (c : CoreState) (test : CoreState → Bool) → core ≡ Some c → runs_and core test ≡ true → RunsAnd core c test
 runs_so core c test at is =
     let both = and_parts (not c.hurt) (test c) (sym (ap (λ o. runs_and o test) at) ∙ is) in record { unhurt = not-true c.hurt both.0; passes = both.1 }
 
@@ -206,6 +207,11 @@ pub one_entry : (image : LoadedImage) (count : ℕ) (s : FlatState) (entry : Ent
 one_entry image count s entry is whole =
     let legal = legal_entry image count s entry is in
     step_by image count s entry.by entry.what (s.cores entry.by) refl legal (whole.going legal.going)
+
+-- a state that is reached where nothing is refused is reached, and nothing is refused
+pub legal_first : (refusal : Option Illegal) (o : Option FlatState) (t : FlatState) → where_legal refusal o ≡ Some t → (refusal ≡ None) × (o ≡ Some t)
+legal_first None o t is = (refl, is)
+legal_first (Some r) o t is = absurd cc
 
 -- where the rest replays, the entry was legal
 pub legal_by : {P : Type 0} → (image : LoadedImage) (count : ℕ) (s : FlatState) (entry : Entry) (entries : List Entry) (last : FlatState) (refusal : Option Illegal)

@@ -2,6 +2,7 @@
 use Rattle.std.proofs.Common.{◌≡◌, ◌≢◌, ℕ, ◌/◌, ◌%◌, ◌<◌, ◌≤◌, ◌==◌, ◌&&◌, nat_lt, Bool, true, false, refl, sym, ap, subst, ◌∙◌, arith, eq-eqb}
 use Rattle.std.proofs.lemmas.Bool.{and_from, and_parts, eqb-true}
 use Rattle.std.proofs.lemmas.Bool.Decides.{nat_tests}
+use Rattle.rv32_image.specs.declared.machine.Machine.{Machine}
 use Rattle.rv32_image.specs.Image.{LoadedImage}
 use Rattle.rv32_image.specs.Machine.{IsMachineFor}
 use Rattle.rv32_image.specs.Places.{place}
@@ -37,6 +38,11 @@ passing_byte image line test is =
 pub none_passes : (image : LoadedImage) (line : ℕ) (test : ℕ → Bool) → line_has image line test ≡ false → (a : ℕ) → a < image.size → line_number image a ≡ line → test a ≡ false
 none_passes image line test none a below at =
     sym (ap (λ b. b && test a) (eq-eqb (line_number image a) line at)) ∙ none_below image.size (λ b. (line_number image b == line) && test b) none a below
+
+-- the line of a byte by its place, and by the lines of the image's machine
+pub line_is : (image : LoadedImage) (machine : Machine) (a p : ℕ) → p ≡ place image.machine image.size a → machine ≡ image.machine → p / machine.line_length ≡ line_number image a
+line_is image machine a p at same =
+    ap (λ q. q / machine.line_length) at ∙ ap (λ (m : Machine). place image.machine image.size a / m.line_length) same
 
 -- a byte of a line of memory lies in memory
 pub same_line_below : (image : LoadedImage) (a b : ℕ) → IsMachineFor image.size image.machine → line_number image a ≡ line_number image b → a < image.size → b < image.size

@@ -1,5 +1,5 @@
 -- Tests below a number, from what a loop has found, and what a search from the front finds.
-use Rattle.std.proofs.Common.{◌≡◌, ℕ, zero, suc, ◌+◌, ◌<◌, Bool, true, false, Some, None, refl, sym, ap, ◌∙◌, inl, inr, arith, add-one}
+use Rattle.std.proofs.Common.{◌≡◌, ℕ, zero, suc, ◌+◌, ◌<◌, ◌≤◌, Bool, true, false, Some, None, refl, sym, ap, ◌∙◌, inl, inr, arith, add-one, le_of_eq}
 use Rattle.std.proofs.lemmas.Bool.{cases_eq, or_right}
 use Rattle.spec_history.specs.Refusal.{any_below}
 use Rattle.spec_history.specs.Searches.{first_below, count_below}
@@ -41,6 +41,18 @@ counted n test passes = rw passes refl
 passed_over : (n : ℕ) (test : ℕ → Bool) → test n ≡ false → count_below (suc n) test ≡ count_below n test + 0
 unfolding count_below
 passed_over n test fails = rw fails refl
+
+grown : (n : ℕ) (test : ℕ → Bool) → count_below n test ≤ count_below (suc n) test
+unfolding count_below
+grown n test = omega arith
+
+-- below a number no fewer pass than below a smaller one
+pub count_up : (from n : ℕ) (test : ℕ → Bool) → from ≤ n → count_below from test ≤ count_below n test
+count_up from zero test most = le_of_eq (ap (λ k. count_below k test) (omega (arith, most)))
+count_up from (suc n) test most = elim (cases_eq from (suc n)) [
+  | inl e ↦ le_of_eq (ap (λ k. count_below k test) e)
+  | inr other ↦ omega (arith, count_up from n test (omega (arith, most, other)), grown n test)
+]
 
 pub count_none : (test : ℕ → Bool) → 0 ≡ count_below 0 test
 unfolding count_below
