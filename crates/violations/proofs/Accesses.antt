@@ -4,6 +4,7 @@ use Rattle.memory_bytes.specs.Bytes.{byte_of, number_at}
 use Rattle.memory_bytes.specs.Maps.{first_of, joined, over, stored, read_outside}
 use Rattle.memory_bytes.specs.Shadow.{byte_in}
 use Rattle.memory_bytes.proofs.Bytes.{over-joined, number_at_same}
+use Rattle.memory_bytes.proofs.SmallFacts.{some_first}
 use Rattle.rv32_image.proofs.SmallFacts.{none_of}
 use Rattle.violations.specs.declared.core_state.CoreState.{CoreState}
 use Rattle.violations.specs.View.{attempt_of, IsSettled, Runs, is_accessed}
@@ -32,10 +33,6 @@ stored_by true x = refl
 stored_by false x = refl
 
 -- ---- loads
-
-some_first : (first second : Option ℕ) → is_some second ≡ true → is_some (first_of first second) ≡ true
-some_first None second is = is
-some_first (Some byte) second is = refl
 
 guarded_now : (address width a committed : ℕ) (own before : Option ℕ) → is_accessed address width a ≡ true → is_some own ≡ false
     → is_some (first_of (cond ((nat_le address a && nat_lt a (address + width)) && is_none own) (Some committed) None) before) ≡ true

@@ -2,6 +2,7 @@
 use Rattle.std.proofs.Common.{◌≡◌, ◌≢◌, ℕ, ◌||◌, ◌&&◌, not, Bool, true, false, Option, Some, None, refl, sym, ap, subst, ◌∙◌, inl, inr, true≢false}
 use Rattle.std.proofs.lemmas.Bool.{cases_eq}
 use Rattle.memory_bytes.specs.Maps.{over, stored}
+use Rattle.memory_bytes.proofs.SmallFacts.{apart_by_test}
 use Rattle.rv32_image.specs.Image.{LoadedImage}
 use Rattle.violations.specs.View.{StoreView, never_waits, attempt_of, epoch_of, IsClear, IsSettled, Runs, is_accessed}
 use Rattle.violations.specs.Rule.{IsSameCore, IsSameView, IsSpared, HurtsLater, Guards, Begins, Ends}
@@ -165,8 +166,8 @@ publishes_same v w v' w' by p one other =
     let committed : (a : ℕ) → w'.committed a ≡ w.committed a = λ a. y.committed a ∙ (both.sees a ∙ sym (x.committed a)) in
     let agree : (k : ℕ) → other.hurt k ≡ one.hurt k =
     λ k. agree_by one.hurt other.hurt k
-    (λ e. y.tells k (apart one.hurt x.others.not_itself k e) (guards_same v v' k (v.own by) (v'.own by) (p.same.cores k) both.own (x.meets k e)))
-    (λ e. x.tells k (apart other.hurt y.others.not_itself k e) (guards_same v' v k (v'.own by) (v.own by) (same_back v v' k (p.same.cores k)) (λ a. sym (both.own a)) (y.meets k e))) in record {
+    (λ e. y.tells k (apart_by_test one.hurt by k x.others.not_itself e) (guards_same v v' k (v.own by) (v'.own by) (p.same.cores k) both.own (x.meets k e)))
+    (λ e. x.tells k (apart_by_test other.hurt by k y.others.not_itself e) (guards_same v' v k (v'.own by) (v.own by) (same_back v v' k (p.same.cores k)) (λ a. sym (both.own a)) (y.meets k e))) in record {
       shape = y.shape ∙ (p.same.shape ∙ sym x.shape);
       cached = p.cached;
       committed = committed;
@@ -175,9 +176,6 @@ publishes_same v w v' w' by p one other =
           (p.settled'.straight by (attempt_of (epoch_of (v'.attempt by)) true) y.attempt refl) committed)
           (other_of v w v' w' by one.hurt other.hurt p.settled p.settled' x.others y.others agree p.same committed);
     }
-  where
-    apart : (hurt : ℕ → Bool) → hurt by ≡ false → (k : ℕ) → hurt k ≡ true → k ≢ by
-    apart hurt none k is e = true≢false (sym is ∙ (ap hurt e ∙ none))
 
 -- the caller is straight before and after
 straight_same : (v w v' w' : StoreView) (by : ℕ) → Pair v w v' w' → Runs v by true → w.attempt by ≡ v.attempt by → w'.attempt by ≡ v'.attempt by → ((a : ℕ) → w'.committed a ≡ w.committed a) → IsSameCore w w' by

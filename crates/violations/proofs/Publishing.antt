@@ -4,6 +4,7 @@ use Rattle.std.proofs.lemmas.Bool.{cases_eq}
 use Rattle.std.proofs.lemmas.Grind.{common_steps}
 use Rattle.memory_bytes.specs.Maps.{over, stored}
 use Rattle.memory_bytes.specs.Shadow.{byte_in}
+use Rattle.memory_bytes.proofs.SmallFacts.{apart_by_test}
 use Rattle.rv32_image.proofs.SmallFacts.{one_value, none_and_some, value_of, none_of, unwrap_none}
 use Rattle.violations.specs.declared.attempt.Attempt.{Attempt}
 use Rattle.violations.specs.declared.core_state.CoreState.{CoreState}
@@ -34,9 +35,6 @@ ran_at p by bytes hurt readers k is =
     let found = readers.run k is in
     let t = value_of found.0.attempt found.2.runs in (t.0, ap attempt_in found.1 ∙ t.1)
 
-apart_from : (hurt : ℕ → Bool) (by k : ℕ) → hurt by ≡ false → hurt k ≡ true → k ≢ by
-apart_from hurt by k unhurt is e = true≢false (sym is ∙ (ap hurt e ∙ unhurt))
-
 -- ---- the cores that are not
 
 guards_none : (o : Option ℕ) → o ≡ None → is_some o ≡ true → ⊥
@@ -66,7 +64,7 @@ hurts_of p q by epoch straight bytes hurt settled readers caller first gone same
   hurts = λ k is.
       let ran = ran_at p by bytes hurt readers k is in
       let mine : epoch_of (attempt_in (slice_get p.states by)) ≡ epoch = ap epoch_of caller in
-      let later = first k ran.0 (apart_from hurt by k readers.others is) ran.1 in
+      let later = first k ran.0 (apart_by_test hurt by k readers.others is) ran.1 in
       record { attempt = ran.0; had = ran.1; later = omega (arith, later, mine); none = gone k is };
   spares = λ k other unhurt. spared_of p q k (same k other unhurt)
       (λ a guarded. written_by p by k a (slice_index q.committed a) bytes hurt settled readers (bytes a) refl (unwritten a) other unhurt guarded);
@@ -188,7 +186,7 @@ publishes p by hurt committed states state state' settled may readers dropped th
     let below : by < length states = omega (arith, settled.there by (attempt_of may.epoch false) may.is, dropped.long) in
     let violates = owned_readers p by hurt state settled readers there in
     let gone : (k : ℕ) → hurt k ≡ true → attempt_in (slice_get q.states k) ≡ None = λ k hurt_k.
-    ap attempt_in (get_set_other states by k state' (apart_from hurt by k readers.others hurt_k)) ∙ (out_at hurt p.states states dropped k hurt_k).attempt in record {
+    ap attempt_in (get_set_other states by k state' (apart_by_test hurt by k readers.others hurt_k)) ∙ (out_at hurt p.states states dropped k hurt_k).attempt in record {
       shape = shape_same p q (record { code = refl; machine = refl; committed = long; states = length-set states by state' ∙ dropped.long });
       cached = refl;
       others = hurts_of p q by may.epoch false (bytes_in state.own.cells) hurt settled readers may.is (first_after p by settled may) gone

@@ -3,8 +3,9 @@ use Rattle.std.proofs.Common.{◌≡◌, ◌≢◌, ℕ, zero, suc, ◌+◌, ◌
 use Rattle.std.proofs.lemmas.Bool.{ltb-false, ltb-true}
 use Rattle.std.proofs.lemmas.Bool.Decides.{nat_tests}
 use Rattle.std.proofs.lemmas.List.Elements.{All-weaker}
-use Rattle.memory_bytes.specs.Bytes.{IsWidth, byte_of, number_at}
+use Rattle.memory_bytes.specs.Bytes.{byte_of, number_at}
 use Rattle.memory_bytes.specs.Maps.{over, stored}
+use Rattle.memory_bytes.proofs.SmallFacts.{some_wide}
 use Rattle.violations.specs.declared.attempt.Attempt.{Attempt}
 use Rattle.violations.specs.Relabelled.{relabelled, IsRelabelling, OwnsBytes}
 use Rattle.violations.specs.Rule.{IsSameCore, IsSpared, IsHurt, HurtsLater, Guards, OwnsIn, AreApart, IsCrowded, Begins, Ends, TakesIn, Loads, Stores, Publishes, LoadsStraight, StoresStraight}
@@ -40,16 +41,11 @@ counted address width a is = (grind (arith, nat_tests), grind (arith, nat_tests)
 ends_inside : (place : ℕ → ℕ) (shape places : Shape) → IsRelabelling place shape places → (address width : ℕ) → IsLoad shape address width
     → place address + width ≤ places.size
 ends_inside place shape places h address width access =
-    let some = wide width access.wide in
+    let some = some_wide width access.wide in
     let last : address + (width - 1) < shape.size = omega (arith, some, access.within) in
     let place_of_last = h.word address width (width - 1) access.wide access.aligned (omega (arith, some)) in
     let inside = h.inside (address + (width - 1)) last in
     omega (arith, some, place_of_last, inside)
-  where
-    wide : (width : ℕ) → IsWidth width → 0 < width
-    wide width (inl one) = omega arith
-    wide width (inr (inl two)) = omega arith
-    wide width (inr (inr four)) = omega arith
 
 pub load-at_place : (place : ℕ → ℕ) (shape places : Shape) → IsRelabelling place shape places → (address width : ℕ) → IsLoad shape address width
     → IsLoad places (place address) width
