@@ -3,6 +3,7 @@ use Rattle.std.proofs.Common.{◌≡◌, ◌≢◌, ℕ, ◌+◌, ◌%◌, ◌<�
 use Rattle.std.proofs.Math.Path.{fun_ext}
 use Rattle.std.proofs.lemmas.Bool.{and_left, both_ways, eqb-true, not-false, or_right}
 use Rattle.memory_bytes.specs.Bytes.{IsWidth}
+use Rattle.memory_bytes.proofs.SmallFacts.{none_enters}
 use Rattle.spec_states.specs.declared.next.Next.{Next}
 use Rattle.spec_states.specs.declared.line.Marks.{Marks}
 use Rattle.spec_states.specs.declared.line.LineState.{LineState}
@@ -13,7 +14,7 @@ use Rattle.spec_states.specs.Rows.{requires_ownership, owns_line, TakesHold}
 use Rattle.spec_states.specs.States.{is_valid, is_exclusive, is_speculative}
 use Rattle.spec_states.specs.Tables.{marks_of}
 use Rattle.spec_states.proofs.CopyLaws.{own_load-keeps, own_load-filled, own_load-marks, own_store-keeps, own_store-filled, own_store-mask, own_store-within_line, marks_of-within_line}
-use Rattle.spec_states.proofs.RowLaws.{own_load-takes_hold, own_load-enters_none, own_load-held, own_store-takes_hold, owned-valid, owned-exclusive, owned-enters_none, speculative-valid}
+use Rattle.spec_states.proofs.RowLaws.{own_load-takes_hold, own_load-enters_none, own_load-held, own_store-takes_hold, owned-valid, owned-exclusive, owned-enters_none, speculative-valid, invalid-unmarked}
 use Rattle.orb.specs.Lines.{is_full}
 use Rattle.violations.specs.declared.step.WaitCause.TheVariants.{NoWay, OrbFull, OrbBusy}
 use Rattle.bus_states.specs.declared.notice.Notice.{Notice}
@@ -163,22 +164,6 @@ fetches-takes bus notice core addr room room2 next access h may free t =
       has_room = t.has_room;
     }
 
-pub invalid-unmarked : (s : LineState) → is_valid s ≡ false → is_speculative s ≡ false
-invalid-unmarked I e = refl
-invalid-unmarked S e = cc
-invalid-unmarked E e = cc
-invalid-unmarked M e = cc
-invalid-unmarked SpS e = cc
-invalid-unmarked SpE e = cc
-
--- a line that enters no buffer requires ownership where it did before
-same_required : (enters after before : Bool) → enters ≡ (after && not before) → enters ≡ false → (before ≡ true → after ≡ true)
-    → after ≡ before
-same_required enters true true e f up = refl
-same_required enters true false e f up = sym e ∙ f
-same_required enters false true e f up = up refl
-same_required enters false false e f up = refl
-
 -- ---- loads
 
 -- a mask stays within the line
@@ -204,7 +189,7 @@ load-hit bus core addr offset width room h may widths held =
       within = load-within bus core addr offset width h;
       exclusive = own_load-held mine.state mine.marks offset width alone held;
       writes_back = row.writes_back;
-      required = same_required _ _ _ row.enters (own_load-enters_none mine.state mine.marks offset width alone) row.stays_required;
+      required = none_enters _ _ _ row.enters (own_load-enters_none mine.state mine.marks offset width alone) row.stays_required;
     }
 
 pub load-miss : (bus : Bus) (core addr offset width : ℕ) (room : Option Room) → IsCoherent bus → MayAccess bus core addr room → IsWidth width
@@ -294,8 +279,14 @@ store-owned bus core addr offset width room h may widths inside owned =
       within = store-within bus core addr offset width h inside;
       exclusive = owned-exclusive mine.state mine.marks offset width alone owned;
       writes_back = row.writes_back;
-      required = same_required _ _ _ row.enters (owned-enters_none mine.state mine.marks offset width alone owned) row.stays_required;
+      required = none_enters _ _ _ row.enters (owned-enters_none mine.state mine.marks offset width alone owned) row.stays_required;
     }
+
+-- the line that leaves to make room isn't the one that the access is to
+pub room-apart : (bus : Bus) (core addr : ℕ) (room : Option Room) → IsRoom (bus.core core) room → (b : Bool) → holds_line bus core addr ≡ b
+    → leaves (cond b None room) addr ≡ false
+room-apart bus core addr room victim true e = refl
+room-apart bus core addr room victim false e = not_leaving (bus.core core) room addr victim e
 
 pub store-claims : (bus : Bus) (core addr offset width : ℕ) (room : Option Room) → IsCoherent bus → MayAccess bus core addr room → IsWidth width
     → offset + width ≤ bus.line_length → owns bus core addr ≡ false → is_busy bus (message_of bus Store core addr) ≡ false
@@ -310,7 +301,7 @@ store-claims bus core addr offset width room h may widths inside unowned free ha
     (record {
       unmodified = unmodified;
       victim = victim (holds_line bus core addr) refl;
-      apart = apart (holds_line bus core addr) refl;
+      apart = room-apart bus core addr room may.victim (holds_line bus core addr) refl;
       takes = own_store-takes_hold mine.state mine.marks offset width alone widths;
       within = store-within bus core addr offset width h inside;
       up_to_date = fresh (holds_line bus core addr) refl;
@@ -320,10 +311,6 @@ store-claims bus core addr offset width room h may widths inside unowned free ha
     victim : (b : Bool) → holds_line bus core addr ≡ b → IsRoom (bus.core core) (cond b None room)
     victim true e = none-room (bus.core core)
     victim false e = may.victim
-
-    apart : (b : Bool) → holds_line bus core addr ≡ b → leaves (cond b None room) addr ≡ false
-    apart true e = refl
-    apart false e = not_leaving (bus.core core) room addr may.victim e
 
     fresh : (b : Bool) → holds_line bus core addr ≡ b
         → IsUpToDate (copy_of (store_next bus core addr offset width).state (store_next bus core addr offset width).marks (committed bus addr)) (committed bus addr)
@@ -347,6 +334,12 @@ store-goes_on false false false true busy e g = cc
 store-goes_on false false false false true e g = cc
 store-goes_on false false false false false e g = (refl, refl)
 
+-- a store leaves the line valid
+pub store-valid : (bus : Bus) (core addr offset width : ℕ) → IsWidth width → is_valid (store_next bus core addr offset width).state ≡ true
+store-valid bus core addr offset width widths =
+    speculative-valid (store_next bus core addr offset width).state
+    (own_store-takes_hold (own bus core addr).state (own bus core addr).marks offset width (is_alone bus (message_of bus Store core addr)) widths).marked
+
 -- the core has taken hold of the line of its store
 pub record IsClaimed (old new : Bus) (core addr offset width : ℕ) : Type 0 where
   pub coherent : IsCoherentWith new (committed old)
@@ -361,16 +354,12 @@ pub claim-with : (bus : Bus) (core addr offset width : ℕ) (room : Option Room)
     → IsClaimed bus (after_claim bus core addr offset width room) core addr offset width
 claim-with bus core addr offset width room h may widths inside goes = pick (owns bus core addr) refl
   where
-    valid : is_valid (store_next bus core addr offset width).state ≡ true
-    valid =
-        speculative-valid (store_next bus core addr offset width).state
-        (own_store-takes_hold (own bus core addr).state (own bus core addr).marks offset width (is_alone bus (message_of bus Store core addr)) widths).marked
-
     pick : (b : Bool) → owns bus core addr ≡ b
         → IsClaimed bus (cond b (kept_line bus core addr (store_next bus core addr offset width))
         (after_message bus (message_of bus Store core addr) (room_for bus core addr room) (store_next bus core addr offset width))) core addr offset width
     pick true e =
         let kept = own-kept bus core addr (store_next bus core addr offset width) in
+        let valid = store-valid bus core addr offset width widths in
         record {
           coherent = kept-with bus core addr (store_next bus core addr offset width) h (store-owned bus core addr offset width room h may widths inside e);
           shape = refl;
@@ -383,6 +372,7 @@ claim-with bus core addr offset width room h may widths inside goes = pick (owns
         let on = store-goes_on (owns bus core addr) (holds_line bus core addr) (no_room room) ((store_next bus core addr offset width).enters && is_full (bus.core core).buffer) (is_busy bus (message_of bus Store core addr)) goes e in
         let takes = store-claims bus core addr offset width room h may widths inside e on.1 on.0 in
         let after = own-after bus (message_of bus Store core addr) (room_for bus core addr room) (store_next bus core addr offset width) in
+        let valid = store-valid bus core addr offset width widths in
         record {
           coherent =
               same-lines bus (after_message bus (message_of bus Store core addr) (room_for bus core addr room) (store_next bus core addr offset width)) addr (sees bus core addr)

@@ -1,6 +1,7 @@
 -- A core stays coherent: its buffer lists the lines that require ownership, and its marks belong to its attempt.
 use Rattle.std.proofs.Common.{◌≡◌, ◌≢◌, ℕ, ◌==◌, ◌||◌, ◌&&◌, not, Bool, true, false, cond, length, Option, refl, sym, ◌∙◌, arith}
 use Rattle.std.proofs.lemmas.Bool.Decides.{nat_tests}
+use Rattle.memory_bytes.proofs.SmallFacts.{enters_new, or_and_false, or_and_true, was_or_enters}
 use Rattle.rv32_image.proofs.SmallFacts.{or_false}
 use Rattle.spec_states.specs.declared.next.Next.{Next}
 use Rattle.spec_states.specs.Copies.{LineCopy, no_copy}
@@ -17,7 +18,8 @@ use Rattle.bus_states.proofs.Copies.{made, made-state, made-required, unrequired
 
 -- ---- buffers
 
-entry-holds : (enters : Bool) (addr a : ℕ) (buffer : Buffer)
+-- what a buffer holds after an entry
+pub entry-holds : (enters : Bool) (addr a : ℕ) (buffer : Buffer)
     → holds (with_entry enters addr buffer).lines a ≡ (holds buffer.lines a || (enters && (addr == a)))
 entry-holds true addr a buffer = holds-push buffer.lines addr a
 entry-holds false addr a buffer = sym (or_false (holds buffer.lines a))
@@ -42,15 +44,6 @@ emptied-buffer buffer h = record { within = omega arith; limit_is = h.limit_is; 
 
 -- ---- one copy of a core
 
-entry : (held req req2 enters : Bool) → held ≡ req → enters ≡ (req2 && not req) → (req ≡ true → req2 ≡ true)
-    → (held || enters) ≡ req2
-entry held true req2 enters e f up = grind (arith, nat_tests, up refl)
-entry held false req2 enters e f up = grind (arith, nat_tests)
-
-out_of_buffer : (held req req2 enters : Bool) → held ≡ req → enters ≡ (req2 && not req) → enters ≡ true → held ≡ false
-out_of_buffer held true req2 enters e f g = grind (arith, nat_tests)
-out_of_buffer held false req2 enters e f g = e
-
 -- what a change of a core's copy keeps
 pub record Changes (core : CoreState) (addr : ℕ) (next : Next) : Type 0 where
   pub enters : next.enters
@@ -69,24 +62,16 @@ changed-coherent core addr next cell h t =
           ∙ elim (addr == a) as (λ b. (addr == a) ≡ b → (holds core.buffer.lines a || (next.enters && b)) ≡ requires_ownership (cond b (made next.state next.marks cell) (core.copy a)).state (cond b (made next.state next.marks cell) (core.copy a)).marks) [
             | true ↦ λ e.
                 let at : addr ≡ a = grind (arith, nat_tests) in
-                rw (← at) (here next.enters _ _ (entry (holds core.buffer.lines addr) _ _ next.enters (h.listed addr) t.enters t.stays_required) ∙ sym (made-required next.state next.marks cell))
-            | false ↦ λ e. same (holds core.buffer.lines a) next.enters ∙ h.listed a
+                rw (← at) (or_and_true next.enters _ _ (was_or_enters (holds core.buffer.lines addr) _ _ next.enters (h.listed addr) t.enters t.stays_required) ∙ sym (made-required next.state next.marks cell))
+            | false ↦ λ e. or_and_false (holds core.buffer.lines a) next.enters ∙ h.listed a
           ] refl;
-      buffer = entry-buffer next.enters addr core.buffer h.buffer (out_of_buffer (holds core.buffer.lines addr) _ _ next.enters (h.listed addr) t.enters) t.has_room;
+      buffer = entry-buffer next.enters addr core.buffer h.buffer (enters_new (holds core.buffer.lines addr) _ _ next.enters (h.listed addr) t.enters) t.has_room;
       unmarked =
           λ a s. elim (addr == a) as (λ b. is_speculative (cond b (made next.state next.marks cell) (core.copy a)).state ≡ false) [
             | true ↦ rw (made-state next.state next.marks cell) (t.unmarked s)
             | false ↦ h.unmarked a s
           ];
     }
-  where
-    here : (enters held req : Bool) → (held || enters) ≡ req → (held || (enters && true)) ≡ req
-    here true held req e = e
-    here false held req e = e
-
-    same : (held enters : Bool) → (held || (enters && false)) ≡ held
-    same held true = grind (arith, nat_tests)
-    same held false = grind (arith, nat_tests)
 
 -- a copy that enters no buffer and leaves none
 pub with_copy-coherent : (core : CoreState) (addr : ℕ) (copy : LineCopy) → IsCoherentCore core

@@ -3,6 +3,7 @@
 use Rattle.std.proofs.Common.{◌≡◌, ◌≢◌, ℕ, ◌%◌, ◌<◌, ◌==◌, ◌||◌, ◌&&◌, ◌⊎◌, inl, inr, not, nat_lt, Bool, true, false, cond, Option, Some, None, refl, sym, ap, subst, ◌∙◌, arith, ne_eqb}
 use Rattle.std.proofs.lemmas.Bool.{and_parts, both_ways}
 use Rattle.std.proofs.lemmas.Bool.Decides.{nat_tests}
+use Rattle.memory_bytes.proofs.SmallFacts.{apart_by_test}
 use Rattle.rv32_image.proofs.SmallFacts.{none_and_some, or_false}
 use Rattle.spec_states.specs.declared.line.LineState.{LineState}
 use Rattle.spec_states.specs.declared.line.Marks.{Marks}
@@ -63,9 +64,6 @@ hurts-same u v core hurt other same h =
 
 -- ---- two steps of a core
 
-pub not_core : (hurt : ℕ → Bool) (core k : ℕ) → hurt core ≡ false → hurt k ≡ true → k ≢ core
-not_core hurt core k spared hit same = both_ways (hurt k) (ap hurt same ∙ spared) hit
-
 pub spared-then : (u v w : StoreView) (k : ℕ) → IsSpared u v k → IsSpared v w k → IsSpared u w k
 spared-then u v w k p q =
     record {
@@ -90,7 +88,7 @@ hurts-then u v w core first second stays f s =
           attempt = p.attempt;
           had = p.had;
           later = p.later;
-          none = (s.spares k (not_core first core k f.not_itself e) e2).attempt ∙ p.none;
+          none = (s.spares k (apart_by_test first core k f.not_itself e) e2).attempt ∙ p.none;
         }
 
     hurt : (k : ℕ) (b : Bool) → first k ≡ b → (b || second k) ≡ true → IsHurt u w core k
@@ -99,7 +97,7 @@ hurts-then u v w core first second stays f s =
         let p = s.hurts k hit in
         record {
           attempt = p.attempt;
-          had = sym (f.spares k (not_core second core k s.not_itself hit) e).attempt ∙ p.had;
+          had = sym (f.spares k (apart_by_test second core k s.not_itself hit) e).attempt ∙ p.had;
           later = subst (λ (o : Option Attempt). epoch_of o < p.attempt.epoch) stays p.later;
           none = p.none;
         }

@@ -1,15 +1,16 @@
 -- A speculative load does what the store's rule says.
-use Rattle.std.proofs.Common.{◌≡◌, ℕ, zero, suc, ◌+◌, ◌^◌, ◌%◌, ◌<◌, ◌≤◌, ◌||◌, not, Bool, true, false, cond, Option, None, refl, sym, ap, subst, ◌∙◌, true≢false, arith, inl, inr}
+use Rattle.std.proofs.Common.{◌≡◌, ℕ, zero, suc, ◌+◌, ◌^◌, ◌%◌, ◌<◌, ◌≤◌, Bool, true, false, cond, Option, None, refl, sym, ap, subst, ◌∙◌, true≢false, arith, inl, inr}
 use Rattle.std.proofs.lemmas.Bool.{both_ways, and_cases, or_left}
 use Rattle.std.proofs.lemmas.Bool.Decides.{nat_tests}
 use Rattle.memory_bytes.specs.Bytes.{IsWidth, number_at}
+use Rattle.memory_bytes.proofs.SmallFacts.{or_not}
 use Rattle.spec_states.specs.declared.line.Marks.{Marks}
 use Rattle.spec_states.specs.Copies.{LineCopy, IsUpToDate}
 use Rattle.spec_states.specs.Mask.{has, has_all, is_within}
 use Rattle.spec_states.specs.States.{is_valid}
 use Rattle.spec_states.specs.Tables.{marks_of, marks_after_load}
 use Rattle.spec_states.proofs.CopyLaws.{own_load-marks, own_load-read}
-use Rattle.spec_states.proofs.MaskLaws.{is_within-first}
+use Rattle.spec_states.proofs.MaskLaws.{is_within-first, is_within-later}
 use Rattle.spec_states.proofs.RowLaws.{own_load-takes_hold, speculative-valid}
 use Rattle.violations.specs.View.{IsLoad, Runs}
 use Rattle.violations.specs.Rule.{HurtsLater, TakesIn, IsCrowded, Loads}
@@ -70,11 +71,8 @@ is-outside mask offset (suc n) e =
       | inl first ↦ record { at = offset; within = is_within-first offset (suc n) (omega arith); out = first }
       | inr others ↦
           (let rest = is-outside mask (offset + 1) n others in
-          record { at = rest.at; within = later rest.at rest.within; out = rest.out })
+          record { at = rest.at; within = is_within-later offset n rest.at rest.within; out = rest.out })
     ]
-  where
-    later : (x : ℕ) → is_within (offset + 1) n x ≡ true → is_within offset (suc n) x ≡ true
-    later x e = grind (arith, nat_tests)
 
 -- what a load leaves of the core's lines: the masks stay, it sees what it saw, and lines are loaded still
 record HasLoaded (old new : Bus) (core addr offset width : ℕ) (hurt : ℕ → Bool) : Type 0 where
@@ -146,18 +144,13 @@ load-loaded bus core addr offset width room h may widths goes =
     same_mask : (x : ℕ) → has (load_next bus core addr offset width).marks.bytes x ≡ has (own bus core addr).marks.bytes x
     same_mask x = ap (λ (marks : Marks). has marks.bytes x) marks ∙ ap (λ (mask : ℕ). has mask x) (carried-bytes mine (committed bus addr) up)
 
-    not_all : (b d : Bool) → (b || not d) ≡ true → b ≡ false → d ≡ false
-    not_all true d e f = cc
-    not_all false true e f = cc
-    not_all false false e f = refl
-
     -- the mask that the copy carries has not all bytes of the access
     outside : (own new core addr).marks.loaded ≡ true → (own bus core addr).marks.loaded ≡ false
         → IsOutside (own bus core addr).marks.bytes offset width
     outside now was =
         is-outside mine.marks.bytes offset width
         (ap (λ (mask : ℕ). has_all mask offset width) (sym (carried-bytes mine (committed bus addr) up))
-        ∙ not_all (marks_of mine.state mine.marks).loaded (has_all (marks_of mine.state mine.marks).bytes offset width)
+        ∙ or_not (marks_of mine.state mine.marks).loaded (has_all (marks_of mine.state mine.marks).bytes offset width)
         (sym (ap (λ (marks : Marks). marks.loaded) t.marks_are ∙ ap (λ (marks : Marks). marks.loaded) marks) ∙ now)
         (carried-loaded mine (committed bus addr) up ∙ was))
 

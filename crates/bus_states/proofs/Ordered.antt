@@ -81,25 +81,25 @@ hurt-had old new core hurt others k x away at =
       | false ↦ λ e. sym (others.spares k away e).attempt ∙ at
     ] refl
 
+-- each attempt was there before, where this core's was, and where each other core's was
+each-had : (old new : Bus) (core : ℕ) → ((x : Attempt) → (new.core core).attempt ≡ Some x → (old.core core).attempt ≡ Some x)
+    → ((k : ℕ) (x : Attempt) → k ≢ core → (new.core k).attempt ≡ Some x → (old.core k).attempt ≡ Some x)
+    → (k : ℕ) (x : Attempt) → (new.core k).attempt ≡ Some x → (old.core k).attempt ≡ Some x
+each-had old new core own others k x at = elim (cases_eq k core) [
+  | inl here ↦ subst (λ (j : ℕ). (new.core j).attempt ≡ Some x → (old.core j).attempt ≡ Some x) (sym here) (own x) at
+  | inr away ↦ others k x away at
+]
+
 pub ordered-hurts : (old new : Bus) (core : ℕ) (hurt : ℕ → Bool) → AreOrdered old
     → HurtsLater (view_of old) (view_of new) core hurt → (new.core core).attempt ≡ (old.core core).attempt → AreOrdered new
-ordered-hurts old new core hurt h others stays = ordered-stays old new h was
-  where
-    was : (k : ℕ) (x : Attempt) → (new.core k).attempt ≡ Some x → (old.core k).attempt ≡ Some x
-    was k x at = elim (cases_eq k core) [
-      | inl here ↦ subst (λ (k : ℕ). (new.core k).attempt ≡ Some x → (old.core k).attempt ≡ Some x) (sym here) (λ at. sym stays ∙ at) at
-      | inr away ↦ hurt-had old new core hurt others k x away at
-    ]
+ordered-hurts old new core hurt h others stays =
+    ordered-stays old new h (each-had old new core (λ x at. sym stays ∙ at) (hurt-had old new core hurt others))
 
 -- an attempt ends
 pub ordered-ends : (old new : Bus) (core : ℕ) → AreOrdered old → Ends (view_of old) (view_of new) core → AreOrdered new
-ordered-ends old new core h ends = ordered-stays old new h was
-  where
-    was : (k : ℕ) (x : Attempt) → (new.core k).attempt ≡ Some x → (old.core k).attempt ≡ Some x
-    was k x at = elim (cases_eq k core) [
-      | inl here ↦ absurd (none_and_some (new.core k).attempt x (ap (λ (k : ℕ). (new.core k).attempt) here ∙ ends.attempt) at)
-      | inr away ↦ sym (ends.others k away).attempt ∙ at
-    ]
+ordered-ends old new core h ends =
+    ordered-stays old new h
+    (each-had old new core (λ x at. absurd (none_and_some (new.core core).attempt x ends.attempt at)) (λ k x away at. sym (ends.others k away).attempt ∙ at))
 
 -- a core has this attempt now, each other one the attempt that it had
 record HasNow (old new : Bus) (core : ℕ) (attempt : Attempt) : Type 0 where

@@ -2,6 +2,7 @@
 use Rattle.std.proofs.Common.{◌≡◌, ◌≢◌, ℕ, ◌%◌, ◌<◌, ◌==◌, ◌||◌, inl, inr, nat_lt, Bool, true, false, List, [], ◌∷◌, Option, Some, None, refl, sym, ap, subst, ◌∙◌, arith}
 use Rattle.std.proofs.lemmas.Bool.{or_right, and_parts, both_ways}
 use Rattle.std.proofs.lemmas.Bool.Decides.{nat_tests}
+use Rattle.memory_bytes.proofs.SmallFacts.{apart_by_test}
 use Rattle.spec_states.specs.Copies.{LineCopy}
 use Rattle.spec_states.specs.States.{is_valid, is_speculative}
 use Rattle.orb.specs.Lines.{holds, is_full}
@@ -19,7 +20,7 @@ use Rattle.bus_states.proofs.Addresses.{line-aligned}
 use Rattle.bus_states.proofs.Coherence.{committed-with}
 use Rattle.bus_states.proofs.Copies.{itself}
 use Rattle.bus_states.proofs.Guarding.{line-viewed, guarded-line, modified-marked, modified-required, required-modified, modified-owns, own-modified, loaded-shared}
-use Rattle.bus_states.proofs.Hurting.{not_core, hurts-none, hurts-then, hurts-then_none, hurts-same, cause, reply-violates, heard-shows, message-hurts, quiet-hurts}
+use Rattle.bus_states.proofs.Hurting.{hurts-none, hurts-then, hurts-then_none, hurts-same, cause, reply-violates, heard-shows, message-hurts, quiet-hurts}
 use Rattle.bus_states.proofs.Ordered.{first-publish, runs-there}
 use Rattle.bus_states.proofs.Publishing.{IsListed, required, listed-held, listed-aligned, AreListed, publish-sends, publish_line-sent, publish_line-core, publish_line-coherent, line_published, first-listed, rest-listed, ArePublished, publish_lines-published, settle-quietly, publish-with}
 use Rattle.bus_states.proofs.Replies.{reply-enters}
@@ -207,7 +208,7 @@ publish-publishes bus core hurt h ordered may are =
       attempt =
           ap (λ (state : CoreState). state.attempt) (settled-at mid core)
           ∙ ap straight_attempt stays ∙ straight-now (bus.core core).attempt may.epoch may.is;
-      meets = λ k hit. publish-meets bus core k h there (not_core (publish_violates bus core) core k violated.not_itself (sym (are k) ∙ hit)) (sym (are k) ∙ hit);
+      meets = λ k hit. publish-meets bus core k h there (apart_by_test (publish_violates bus core) core k violated.not_itself (sym (are k) ∙ hit)) (sym (are k) ∙ hit);
       tells = λ k away guards. are k ∙ publish-guards bus core k h there away guards;
     }
   where

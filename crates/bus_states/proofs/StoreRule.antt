@@ -6,10 +6,9 @@ use Rattle.rv32_image.proofs.SmallFacts.{or_false}
 use Rattle.spec_states.specs.declared.line.Marks.{Marks}
 use Rattle.spec_states.specs.Copies.{LineCopy, IsUpToDate}
 use Rattle.spec_states.specs.Mask.{has, is_within}
-use Rattle.spec_states.specs.States.{is_valid}
 use Rattle.spec_states.specs.Tables.{marks_of, marks_after_store}
 use Rattle.spec_states.proofs.CopyLaws.{own_store-marks, own_store-mask}
-use Rattle.spec_states.proofs.RowLaws.{own_store-takes_hold, owned-valid, speculative-valid}
+use Rattle.spec_states.proofs.RowLaws.{owned-valid}
 use Rattle.cache_lines.specs.Protocol.{copy_with_number}
 use Rattle.orb.specs.Lines.{is_full}
 use Rattle.violations.specs.View
@@ -21,7 +20,7 @@ use Rattle.bus_states.specs.Coherent.{IsCoherent}
 use Rattle.bus_states.specs.Messages.{Room, IsRoom, message_of, violates, is_busy, is_alone, with_copy, after_message}
 use Rattle.bus_states.specs.Speculative.{own, holds_line, room_for, no_room, kept_line, store_next, owns, after_claim, with_bytes, after_store, store_wait, store_violates}
 use Rattle.bus_states.specs.Views.{view_of}
-use Rattle.bus_states.proofs.Accesses.{MayAccess, store-owned, store-claims, store-goes_on, IsClaimed, claim-with, claim-writes, store-with}
+use Rattle.bus_states.proofs.Accesses.{MayAccess, store-owned, store-claims, store-goes_on, IsClaimed, claim-with, claim-writes, store-with, store-valid}
 use Rattle.bus_states.proofs.AttemptRules.{with-committed}
 use Rattle.bus_states.proofs.Coherence.{IsCoherentWith, committed-with, coherent-with}
 use Rattle.bus_states.proofs.Copies.{itself}
@@ -32,11 +31,6 @@ use Rattle.bus_states.proofs.QuietCalls.{Writes, written-quietly}
 use Rattle.bus_states.proofs.Showing.{line_at, place_at, aligned_at, sees_at, own_at, guarded_at}
 use Rattle.bus_states.proofs.Taking.{may-access, HasTaken, kept-taken, told-taken, taken-sees, by_line, carried-bytes, carried-loaded}
 use Rattle.bus_states.proofs.Violating.{access-meets, guards-loaded, store-tells, in_case}
-
-store-valid : (bus : Bus) (core addr offset width : ℕ) → IsWidth width → is_valid (store_next bus core addr offset width).state ≡ true
-store-valid bus core addr offset width widths =
-    speculative-valid (store_next bus core addr offset width).state
-    (own_store-takes_hold (own bus core addr).state (own bus core addr).marks offset width (is_alone bus (message_of bus Store core addr)) widths).marked
 
 claim-taken : (bus : Bus) (core addr offset width : ℕ) (room : Option Room) → IsCoherent bus → MayAccess bus core addr room → IsWidth width
     → offset + width ≤ bus.line_length → store_wait bus core addr offset width room ≡ None

@@ -21,7 +21,7 @@ use Rattle.bus_states.specs.Coherent.{IsCoherent, speculates}
 use Rattle.bus_states.specs.Messages.{Room, IsRoom, Message, message_of, reply, holds_up, is_busy, is_alone, leaves, with_copy, after_message}
 use Rattle.bus_states.specs.Speculative.{own, holds_line, room_for}
 use Rattle.bus_states.specs.Straight.{unmarked_next, after_straight_load, stores_alone, straight_store_message, after_straight_store}
-use Rattle.bus_states.proofs.Accesses.{Takes, taken-with, not_leaving, none-room}
+use Rattle.bus_states.proofs.Accesses.{Takes, taken-with, not_leaving, none-room, room-apart}
 use Rattle.bus_states.proofs.Coherence.{IsCoherentWith, with-itself, by_core, none_at_all, sees-past, sees-held, sees-unmodified}
 use Rattle.bus_states.proofs.Copies.{itself, unrequired}
 use Rattle.bus_states.proofs.Cores.{with_copy-coherent}
@@ -252,15 +252,11 @@ straight_store-takes bus core addr offset width value room h may inside =
     straight-takes bus (straight_store_message bus core addr offset width value) room (room_for bus core addr room) (cond alone M S) h may
     (valid-in alone M refl) (calm-in alone M refl)
     (λ x le. number-past (sees bus core addr) bus.line_length offset width value x inside le (sees-past bus core addr x h le))
-    (λ n. absurd (n refl)) (victim (holds_line bus core addr)) (apart (holds_line bus core addr) refl) (alone-in alone M)
+    (λ n. absurd (n refl)) (victim (holds_line bus core addr)) (room-apart bus core addr room may.victim (holds_line bus core addr) refl) (alone-in alone M)
   where
     victim : (b : Bool) → IsRoom (bus.core core) (cond b None room)
     victim true = none-room (bus.core core)
     victim false = may.victim
-
-    apart : (b : Bool) → holds_line bus core addr ≡ b → leaves (cond b None room) addr ≡ false
-    apart true e = refl
-    apart false e = not_leaving (bus.core core) room addr may.victim e
 
 pub straight_store-with : (bus : Bus) (core addr offset width value : ℕ) (room : Option Room) → IsCoherent bus
     → MayAccessStraight bus core addr room → offset + width ≤ bus.line_length

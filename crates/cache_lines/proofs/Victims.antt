@@ -4,21 +4,12 @@ use Rattle.std.proofs.lemmas.Bool.{cases_eq, not-false, not-true}
 use Rattle.std.specs.Bool.{then_some}
 use Rattle.std.specs.List.{find, range_with_len}
 use Rattle.std.specs.Option.{option_or}
-use Rattle.spec_states.specs.declared.line.LineState.{LineState}
-use Rattle.spec_states.specs.declared.line.LineState.TheVariants.{I, S, E, M, SpS, SpE}
 use Rattle.spec_states.specs.States.{is_valid, is_speculative}
+use Rattle.spec_states.proofs.RowLaws.{invalid-unmarked}
 use Rattle.cache_lines.specs.declared.line.Line.{Line}
 use Rattle.cache_lines.specs.Changes.{is_invalid, is_unmarked, victim_of}
 use Rattle.cache_lines.specs.Lines.{Contents, line_in, lowest_way}
 use Rattle.cache_lines.proofs.Firsts.{first_is, none_is, found_first, found_none, find_more}
-
-invalid-unmarked : (state : LineState) → is_valid state ≡ false → is_speculative state ≡ false
-invalid-unmarked I e = refl
-invalid-unmarked S e = refl
-invalid-unmarked E e = refl
-invalid-unmarked M e = refl
-invalid-unmarked SpS e = absurd cc
-invalid-unmarked SpE e = absurd cc
 
 -- the way that a line takes is one that carries no marks
 pub victim-unmarked : (cache : Contents) (addr : ℕ)

@@ -4,9 +4,8 @@ use Rattle.std.proofs.lemmas.Bool.{eq-eqb}
 use Rattle.std.proofs.Math.Path.{fun_ext}
 use Rattle.memory_bytes.specs.Bytes.{IsWidth, number_at}
 use Rattle.spec_states.specs.Copies.{LineCopy}
-use Rattle.spec_states.proofs.RowLaws.{own_store-takes_hold, speculative-valid}
 use Rattle.cache_lines.specs.Protocol.{copy_with_number}
-use Rattle.bus_states.proofs.Accesses.{own-after, own-kept}
+use Rattle.bus_states.proofs.Accesses.{own-after, own-kept, store-valid}
 use Rattle.spec_states.specs.States.{is_valid}
 use Rattle.cache_lines.specs.Changes.{victim_of}
 use Rattle.bus_states.specs.declared.notice.Notice.TheVariants.{Load, Store}
@@ -15,7 +14,7 @@ use Rattle.bus_states.specs.Coherent.{IsCoherent}
 use Rattle.bus_states.proofs.Coherence.{sees-held}
 use Rattle.spec_bus.proofs.Moving.{sees_absent, same_bus}
 use Rattle.bus_states.specs.Bus.{Bus, sees, committed}
-use Rattle.bus_states.specs.Messages.{Room, message_of, violates, is_busy, is_alone, with_copy, after_message}
+use Rattle.bus_states.specs.Messages.{Room, message_of, violates, is_busy, with_copy, after_message}
 use Rattle.bus_states.specs.Speculative.{holds_line, load_next, owns, own, store_next, kept_line, room_for, after_claim, with_bytes}
 use Rattle.spec_bus.specs.declared.bus_core.Core.{Core}
 use Rattle.spec_bus.specs.declared.parts.Parts.{Parts}
@@ -95,16 +94,13 @@ pub claimed_valid : (bus : Bus) (core addr offset width : ℕ) (room : Option Ro
     → is_valid (own (after_claim bus core addr offset width room) core addr).state ≡ true
 claimed_valid bus core addr offset width room widths = pick (owns bus core addr)
   where
-    valid : is_valid (store_next bus core addr offset width).state ≡ true
-    valid =
-        speculative-valid (store_next bus core addr offset width).state
-        (own_store-takes_hold (own bus core addr).state (own bus core addr).marks offset width (is_alone bus (message_of bus Store core addr)) widths).marked
-
     pick : (b : Bool) → is_valid (own (cond b (kept_line bus core addr (store_next bus core addr offset width))
         (after_message bus (message_of bus Store core addr) (room_for bus core addr room) (store_next bus core addr offset width))) core addr).state ≡ true
     pick true =
+        let valid = store-valid bus core addr offset width widths in
         subst (λ (copy : LineCopy). is_valid copy.state ≡ true) (sym (own-kept bus core addr (store_next bus core addr offset width))) (rw valid valid)
     pick false =
+        let valid = store-valid bus core addr offset width widths in
         subst (λ (copy : LineCopy). is_valid copy.state ≡ true) (sym (own-after bus (message_of bus Store core addr) (room_for bus core addr room) (store_next bus core addr offset width))) (rw valid valid)
 
 -- and its lines are as long

@@ -1,8 +1,9 @@
 -- Memory by places: each byte stands at its place.
-use Rattle.std.proofs.Common.{◌≡◌, ◌≢◌, ℕ, zero, suc, ◌+◌, ◌-◌, ◌<◌, ◌≤◌, ◌==◌, nat_lt, ◌++◌, Bool, true, false, ◌⊎◌, inl, inr, ◌∷◌, [], List, length, slice_index, Option, Some, None, refl, sym, ap, subst, ◌∙◌, length-append, add-one, arith}
+use Rattle.std.proofs.Common.{◌≡◌, ◌≢◌, ℕ, zero, suc, ◌+◌, ◌-◌, ◌<◌, ◌≤◌, ◌==◌, nat_lt, ◌++◌, Bool, true, false, ◌⊎◌, inl, inr, ◌∷◌, [], List, length, slice_index, Some, refl, sym, ap, subst, ◌∙◌, length-append, add-one, arith}
 use Rattle.std.proofs.Math.ListN.{set, replicate, get_or-append}
 use Rattle.std.proofs.lemmas.Bool.Decides.{nat_tests}
 use Rattle.std.proofs.lemmas.List.{append_assoc, get_or-set_same, get_or-set_other, get_or_past, length-set, length-replicate, replicate-append-replicate}
+use Rattle.memory_bytes.proofs.SmallFacts.{none_or_some}
 use Rattle.rv32_image.specs.declared.apart.Apart.{Apart}
 use Rattle.rv32_image.specs.declared.machine.Machine.{Machine}
 use Rattle.rv32_image.specs.Image.{LoadedImage}
@@ -66,20 +67,16 @@ module _ (image : LoadedImage) (fits : IsMachineFor image.size image.machine) (l
           (λ same. away (place-one image.machine image.size a (apart.first + n) fits same))
           ∙ before (less w away)
 
-  some_or_none : (o : Option Apart) → (o ≡ None) ⊎ ((x : Apart) × (o ≡ Some x))
-  some_or_none None = inl refl
-  some_or_none (Some x) = inr (x, refl)
-
   pub by_places-length : length (by_places image).bytes ≡ at image.size
   by_places-length =
-      elim (some_or_none image.machine.apart) [
+      elim (none_or_some image.machine.apart) [
         | inl none ↦ subst (λ o. length (laid_by image o) ≡ at image.size) (sym none) (long ∙ sym (place-none image.machine image.size image.size none))
         | inr x ↦ subst (λ o. length (laid_by image o) ≡ at image.size) (sym x.1) (laid-length x.0.first x.0.length)
       ]
 
   inside-byte : (a : ℕ) → a < image.size → slice_index (by_places image).bytes (at a) ≡ slice_index image.bytes a
   inside-byte a lt =
-      elim (some_or_none image.machine.apart) [
+      elim (none_or_some image.machine.apart) [
         | inl none ↦ subst (λ o. slice_index (laid_by image o) (at a) ≡ slice_index image.bytes a) (sym none)
             (ap (λ p. slice_index image.bytes p) (place-none image.machine image.size a none))
         | inr x ↦ subst (λ o. slice_index (laid_by image o) (at a) ≡ slice_index image.bytes a) (sym x.1)

@@ -9,14 +9,13 @@ use Rattle.spec_states.specs.Mask.{IsWithinLine}
 use Rattle.spec_states.specs.Rows.{requires_ownership}
 use Rattle.spec_states.specs.Copies.{LineCopy}
 use Rattle.spec_states.specs.States.{is_valid, is_modified}
-use Rattle.spec_states.proofs.RowLaws.{modified-valid}
+use Rattle.spec_states.proofs.RowLaws.{modified-valid, invalid-unmarked}
 use Rattle.rv32_image.specs.declared.machine.Machine.{Machine}
 use Rattle.cache_lines.specs.declared.line.Line.{Line}
 use Rattle.cache_lines.specs.Lines.{geometry_of}
 use Rattle.cache_lines.specs.Protocol.{copy_at, copy_of_line}
 use Rattle.bus_states.specs.Bus.{CoreState, Bus, sees, committed}
 use Rattle.bus_states.proofs.Coherence.{sees-unmodified}
-use Rattle.bus_states.proofs.Accesses.{invalid-unmarked}
 use Rattle.bus_states.specs.Coherent.{IsCoherent}
 use Rattle.bus_states.specs.Messages.{Room, Message, changed_core, without_line, heard_core, with_line, with_victim, after_message}
 use Rattle.bus_states.specs.Speculative.{kept_line}
@@ -96,11 +95,8 @@ fetched old mid cores memory message way next victim told own same_memory same_c
     (changed_core message.addr next message.line (without_line message.addr (line_at old.cores.items message.sender message.addr (Some way)) (core_at old.cores.items message.sender)))
     (core_at mid.cores.items k) (core_at old.cores.items k) (heard_core (bus_in old) message k)
     (rw (ap (λ (core : Option Core). line_or_none core message.addr (Some way)) own, ap state_or_none own) at (core k))
-    (by_sender k))
+    (told.core k))
     (λ p. bytes p ∙ rw (same_limits, same_memory, room) refl)
-  where
-    by_sender : (k : ℕ) → core_at mid.cores.items k ≡ cond (k == message.sender) (core_at old.cores.items k) (heard_core (bus_in old) message k)
-    by_sender k = told.core k
 
 -- a line that the core holds changes
 pub kept : (old : Parts) (cores : List Core) (memory : List ℕ) (core addr : ℕ) (next : Next) (cells : List ℕ)
@@ -128,11 +124,8 @@ claimed old mid cores memory message next told own same_memory same_code same_li
     same_bus _ _ _ _ _ _ _ _ _ _ _ _ (count ∙ told.count) (size ∙ ap (λ m. length m.items) same_memory) same_code same_limits
     (λ k. sender_last (k == message.sender) (core_at cores k) (changed_core message.addr next message.line (core_at old.cores.items message.sender))
     (core_at mid.cores.items k) (core_at old.cores.items k) (heard_core (bus_in old) message k)
-    (rw (ap state_or_none own) at (core k)) (by_sender k))
+    (rw (ap state_or_none own) at (core k)) (told.core k))
     (λ p. bytes p ∙ rw (same_limits, same_memory) refl)
-  where
-    by_sender : (k : ℕ) → core_at mid.cores.items k ≡ cond (k == message.sender) (core_at old.cores.items k) (heard_core (bus_in old) message k)
-    by_sender k = told.core k
 
 -- what a core sees of a line that it does not hold
 pub sees_absent : (bus : Bus) (core addr : ℕ) → IsCoherent bus → addr % bus.line_length ≡ 0

@@ -14,6 +14,7 @@ use Rattle.cache_lines.specs.Changes.{victim_of, is_invalid, is_unmarked}
 use Rattle.cache_lines.specs.Lines.{Contents, Geometry, set_of, line_in, is_copy_of, lowest_way, way_at}
 use Rattle.rv32_image.specs.Machine.{is_line_length}
 use Rattle.rv32_image.specs.Places.{place}
+use Rattle.spec_states.proofs.RowLaws.{invalid-unmarked}
 use Rattle.cache_lines.specs.Placed.{IsPlaced}
 use Rattle.cache_lines.specs.Protocol.{copy_at, copy_of_line, changed_copy, copy_with_number}
 use Rattle.cache_lines.proofs.CopyLaws.{copy_at-line, copy_at-own}
@@ -29,7 +30,6 @@ use Rattle.bus_states.specs.Messages.{Room, Message, message_of, is_alone, is_bu
 use Rattle.bus_states.specs.Attempts.{with_core}
 use Rattle.bus_states.specs.Speculative.{own, holds_line, room_for, no_room, kept_line, load_next, after_load, load_wait, store_next, owns, after_claim, with_bytes, after_store, store_wait}
 use Rattle.bus_states.specs.Straight.{after_straight_load, after_straight_store, straight_store_message, unmarked_next, stores_alone}
-use Rattle.bus_states.proofs.Accesses.{invalid-unmarked}
 use Rattle.spec_bus.specs.declared.bus_core.Core.{Core}
 use Rattle.spec_bus.specs.Cached.{CachedView, bus, place_of, room, seen}
 use Rattle.spec_bus.specs.Parts.{room_in, state_or_none, line_or_none, victim_or_none}
