@@ -61,7 +61,8 @@ load_as image s by c address width value b is =
       cores = with_core s.cores by (Some (record c { hart = hart; outside = cond x c.outside (joined (read_outside address width c.own s.committed) c.outside) }));
     } in t) is
 
-store_as : (image : LoadedImage) (s : FlatState) (by : ℕ) (c : CoreState) (address width value : ℕ) (b : Bool) → c.straight ≡ b
+-- what a store does, of a straight core or not
+pub store_as : (image : LoadedImage) (s : FlatState) (by : ℕ) (c : CoreState) (address width value : ℕ) (b : Bool) → c.straight ≡ b
     → effect_on image s by c (Store address width value) ≡ record s {
       committed = cond b (over (stored address width value) s.committed) s.committed;
       published = cond b (stepped (next_event image c.hart).now).done s.published;

@@ -12,11 +12,13 @@ pub record Counted (image : LoadedImage) (h : HartState) (n : ℕ) (g : HartStat
   pub count : g.done ≡ h.done + n
   pub most : h.done ≤ image.limit → g.done ≤ image.limit
 
-no_steps : (image : LoadedImage) (h g : HartState) (memory memory' : List ℕ) → after_steps image 0 h memory ≡ Runs g memory' → h ≡ g
+-- a run of no steps is at the hart that it was at
+pub no_steps : (image : LoadedImage) (h g : HartState) (memory memory' : List ℕ) → after_steps image 0 h memory ≡ Runs g memory' → h ≡ g
 unfolding after_steps
 no_steps image h g memory memory' runs = cc
 
-none_left : (image : LoadedImage) (p : Progress) → go_on p (after_steps image 0) ≡ p
+-- and it goes on to nothing
+pub none_left : (image : LoadedImage) (p : Progress) → go_on p (after_steps image 0) ≡ p
 unfolding after_steps
 none_left image (Runs h memory) = refl
 none_left image (Ends e memory) = refl

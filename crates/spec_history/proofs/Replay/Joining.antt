@@ -1,7 +1,8 @@
 -- One list of entries after another, and who is spared by a change of committed memory.
-use Rattle.std.proofs.Common.{◌≡◌, ◌≢◌, ℕ, ◌==◌, ◌&&◌, not, Bool, true, false, is_some, List, [], ◌∷◌, ◌++◌, Option, Some, None, refl, sym, ap, ◌∙◌, true≢false, eq-eqb}
+use Rattle.std.proofs.Common.{◌≡◌, ◌≢◌, ℕ, ◌==◌, ◌&&◌, not, Bool, true, false, is_some, List, [], ◌∷◌, ◌++◌, Option, Some, None, refl, sym, ap, subst, ◌∙◌, true≢false, eq-eqb}
 use Rattle.std.proofs.lemmas.Bool.{and_parts, not-true, and_right}
 use Rattle.rv32_image.specs.Image.{LoadedImage}
+use Rattle.rv32_image.proofs.SmallFacts.{one_value}
 use Rattle.spec_history.specs.declared.entry.Entry.{Entry}
 use Rattle.spec_history.specs.declared.illegal.Illegal.{Illegal}
 use Rattle.spec_history.specs.FlatState.{CoreState, FlatState, first_state}
@@ -13,6 +14,7 @@ use Rattle.spec_history.proofs.OneEntry.Legal.{some_below}
 use Rattle.spec_history.proofs.OneEntry.Going.{Spares}
 use Rattle.spec_history.proofs.Searches.Tests.{all_fail}
 use Rattle.spec_history.proofs.Searches.Missing.{is_unseen}
+use Rattle.spec_history.proofs.Replay.Replays.{one_legal}
 
 -- ---- a byte that another core has read
 
@@ -110,3 +112,11 @@ unfolding replay
 splits image count first later last replays =
     let parts = splits_from image count first later (first_state image) last replays in
     record { between = parts.between; first_replays = parts.first_replays; later_replays = parts.later_replays }
+
+-- one entry more of a history leads to its effect
+pub one_more : (image : LoadedImage) (count : ℕ) (history : List Entry) (s t : FlatState) (entry : Entry) → replay image count history ≡ Some s
+    → replay image count (history ++ entry ∷ []) ≡ Some t → effect image s entry ≡ t
+one_more image count history s t entry before replays =
+    let parts = splits image count history (entry ∷ []) t replays in
+    let same : parts.between ≡ s = one_value (replay image count history) parts.between s parts.first_replays before in
+    (one_legal image count s t entry (subst (λ (x : FlatState). replay_from image count x (entry ∷ []) ≡ Some t) same parts.later_replays)).1

@@ -220,6 +220,13 @@ pub legal_by : {P : Type 0} → (image : LoadedImage) (count : ℕ) (s : FlatSta
 legal_by image count s entry entries last None is replays later = later is replays
 legal_by image count s entry entries last (Some refusal) is replays later = absurd cc
 
+-- one entry that leads to a state is legal, and the state is its effect
+pub one_legal : (image : LoadedImage) (count : ℕ) (s t : FlatState) (entry : Entry) → replay_from image count s (entry ∷ []) ≡ Some t
+    → (refusal_of image count s entry ≡ None) × (effect image s entry ≡ t)
+unfolding replay_from
+one_legal image count s t entry replays =
+    legal_by image count s entry [] t (refusal_of image count s entry) refl replays (λ legal rest. let same : effect image s entry ≡ t = cc in (legal, same))
+
 pub all_entries : (image : LoadedImage) (count : ℕ) (entries : List Entry) (s last : FlatState) → Whole image count s → replay_from image count s entries ≡ Some last → Whole image count last
 unfolding replay_from
 all_entries image count [] s last whole replays = let same : s ≡ last = cc in subst (Whole image count) same whole
