@@ -1,5 +1,5 @@
 -- A word of eight hexadecimal digits is found without looking for its end.
-use Rattle.std.proofs.Common.{◌≡◌, ℕ, ◌<◌, ◌≤◌, ◌==◌, ◌||◌, Bool, true, false, cond, List, [], ◌∷◌, ◌++◌, take, drop, length, Option, Some, None, Result, Ok, Err, slice_index_or, refl, ap, sym, ◌∙◌, arith, length-append}
+use Rattle.std.proofs.Common.{◌≡◌, ℕ, ◌<◌, ◌≤◌, ◌==◌, ◌||◌, Bool, true, false, cond, List, [], ◌∷◌, ◌++◌, take, drop, length, Some, None, Result, Ok, Err, slice_index_or, refl, ap, sym, ◌∙◌, arith, length-append}
 use Rattle.std.proofs.Math.Seq.{take-append_seam}
 use Rattle.std.proofs.lemmas.Bool.{not-true, and_parts}
 use Rattle.std.proofs.lemmas.List.{append-nil, take-append-drop}
@@ -7,6 +7,7 @@ use Rattle.std.proofs.lemmas.List.Sums.{list_all-from_AllPass}
 use Rattle.std.specs.Prelude.{IsOk}
 use Rattle.std.specs.Int.{w32, from_be_bytes}
 use Rattle.std.specs.List.{list_all}
+use Rattle.memory_bytes.proofs.SmallFacts.{none_by}
 use Rattle.hex.specs.Hex.{decode_sized, is_hex_digit}
 use Rattle.hex.specs.declared.error.FromHexError.{FromHexError}
 use Rattle.hex.proofs.HexLemmas.{IsOk-decode_sized}
@@ -29,10 +30,6 @@ eight_long word n is = let ok = (IsOk-decode_sized word 4).0 (decodes (decode_si
 all_hex : (word : List ℕ) (n : ℕ) → digits word ≡ Some n → list_all is_hex_digit word ≡ true
 unfolding digits
 all_hex word n is = list_all-from_AllPass is_hex_digit word ((IsOk-decode_sized word 4).0 (decodes (decode_sized word 4) n is)).1
-
-pub none_unless : (r : Option ℕ) → ((n : ℕ) → r ≡ Some n → ⊥) → r ≡ None
-none_unless None is = refl
-none_unless (Some n) is = absurd (is n refl)
 
 -- ---- the first word and what follows make the text
 
@@ -106,11 +103,11 @@ some_word (b ∷ left) is =
 
 pub too_short : (text : List ℕ) → length text < 8 → digits (first_word text) ≡ None
 too_short text short =
-    none_unless (digits (first_word text)) (λ n is. omega (arith, short, eight_long (first_word text) n is, ap length (parts text), length-append (first_word text) (after_word text)))
+    none_by (digits (first_word text)) (λ n is. omega (arith, short, eight_long (first_word text) n is, ap length (parts text), length-append (first_word text) (after_word text)))
 
 pub no_digits : (text : List ℕ) → digits (take 8 text) ≡ None → digits (first_word text) ≡ None
 no_digits text none =
-    none_unless (digits (first_word text))
+    none_by (digits (first_word text))
     (λ n is.
     let long = eight_long (first_word text) n is in
     let whole : take 8 text ≡ first_word text = ap (λ l. take 8 l) (sym (parts text)) ∙ (ap (λ k. take k (first_word text ++ after_word text)) (sym long) ∙ take-append_seam (first_word text) (after_word text)) in
@@ -121,7 +118,7 @@ too_long text left n rest is other =
     let more : 1 ≤ length (first_word (drop 8 text)) = some_word (drop 8 text) (ap is_end (sym rest) ∙ other) in
     let first = ap length (within_eight text n is).first in
     let both = length-append (take 8 text) (first_word (drop 8 text)) in
-    none_unless (digits (first_word text)) (λ m some. omega (arith, eight_long (first_word text) m some, eight_long (take 8 text) n is, first, both, more))
+    none_by (digits (first_word text)) (λ m some. omega (arith, eight_long (first_word text) m some, eight_long (take 8 text) n is, first, both, more))
 
 pub just_eight : (text left : List ℕ) (n : ℕ) → left ≡ drop 8 text → digits (take 8 text) ≡ Some n → is_end left ≡ true → IsRead digits text n left
 just_eight text left n rest is end =

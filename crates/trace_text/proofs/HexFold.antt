@@ -2,13 +2,14 @@
 use Rattle.std.proofs.Common.{◌≡◌, ℕ, zero, suc, ◌+◌, ◌*◌, ◌^◌, ◌<◌, List, [], ◌∷◌, drop, get_or, length, Option, Some, None, Result, Ok, refl, ap, sym, ◌∙◌, arith}
 use Rattle.std.specs.Int.{w32, from_be_bytes}
 use Rattle.std.proofs.lemmas.List.{drop_more, nil_from_length}
+use Rattle.memory_bytes.proofs.SmallFacts.{none_by}
 use Rattle.hex.specs.Hex as hex
 use Rattle.hex.specs.Hex.{decode_pairs, digit_or_error, hex_digit_value}
 use Rattle.hex.specs.declared.error.FromHexError.{FromHexError}
 use Rattle.rv32_image.specs.ImageText as image
 use Rattle.rv32_image.specs.ImageText.{hex_or_fault}
 use Rattle.trace_text.specs.TraceText.{digits, where_ok}
-use Rattle.trace_text.proofs.EightDigits.{eight_long, none_unless}
+use Rattle.trace_text.proofs.EightDigits.{eight_long}
 
 -- the number that the digits write when they follow those of n
 abbrev pub then_digit : Option ℕ → (ℕ → Option ℕ) → Option ℕ
@@ -58,7 +59,7 @@ digits_is (a ∷ b ∷ c ∷ d ∷ e ∷ f ∷ g ∷ h ∷ []) long = eight a b 
 digits_is (a ∷ b ∷ c ∷ d ∷ e ∷ f ∷ g ∷ h ∷ x ∷ word) long = absurd (omega (arith, long))
 
 pub other_length : (word : List ℕ) → (length word ≡ 8 → ⊥) → digits word ≡ None
-other_length word other = none_unless (digits word) (λ n is. other (eight_long word n is))
+other_length word other = none_by (digits word) (λ n is. other (eight_long word n is))
 
 after-cons : (n digit : ℕ) (word : List ℕ) → hex_after n (digit ∷ word) ≡ then_digit (hex_digit_value digit) (λ v. hex_after (n * 16 + v) word)
 unfolding hex_after

@@ -25,7 +25,8 @@ number-decimal : (n : ℕ) → n < 2 ^ 32 → number (decimal n) ≡ Some n
 unfolding number
 number-decimal n small = let below : nat_lt n (2 ^ 32) ≡ true = grind (arith, nat_tests) in rw (number_in-decimal n (omega arith), below) refl
 
-digits-hex : (n : ℕ) → n < 2 ^ 32 → digits (hex_word n) ≡ Some n
+-- a word of hexadecimal digits says the number that it was made of
+pub digits-hex : (n : ℕ) → n < 2 ^ 32 → digits (hex_word n) ≡ Some n
 unfolding digits
 digits-hex n small = rw (word_in-hex n small) refl
 
