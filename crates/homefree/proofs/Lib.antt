@@ -1,3 +1,5 @@
+-- Small facts that several files use, and the crates above.
+pub mod SmallFacts
 -- The entries of each turn are legal, and store and state agree afterwards.
 pub mod State
 -- What the register keeps are the fields of the state.

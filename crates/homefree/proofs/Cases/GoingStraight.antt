@@ -57,7 +57,8 @@ was_straight old v core now runs is = record {
   short = rw is (omega arith);
 }
 
-published_epoch : (hurt : ℕ → Bool) (cores : ℕ → Option CoreState) (core : ℕ) (c new : CoreState) → cores core ≡ Some c → new.epoch ≡ c.epoch
+-- a core that publishes keeps its epoch, and so do those that are hurt
+pub published_epoch : (hurt : ℕ → Bool) (cores : ℕ → Option CoreState) (core : ℕ) (c new : CoreState) → cores core ≡ Some c → new.epoch ≡ c.epoch
     → (k : ℕ) → epoch_on (with_core (λ j. hurt_if (hurt j) (cores j)) core (Some new)) k ≡ epoch_on cores k
 published_epoch hurt cores core c new at same k = elim (cases_eq k core) [
   | inl e ↦ ap (λ b. by_core (cond b (Some new) (hurt_if (hurt k) (cores k))) 0 (λ x. x.epoch)) (eq-eqb k core e)

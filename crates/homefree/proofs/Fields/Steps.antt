@@ -15,7 +15,7 @@ use Rattle.spec_history.specs.Replay.{where_legal, replay_from, HistoryCounts, p
 use Rattle.spec_history.specs.View.{IsReached}
 use Rattle.spec_history.proofs.Replay.Counting.{counts_add}
 use Rattle.spec_history.proofs.Replay.Joining.{history_goes_on, no_entry}
-use Rattle.spec_history.proofs.Replay.Replays.{Whole, replayed}
+use Rattle.spec_history.proofs.Replay.Replays.{Whole, replayed, one_legal}
 use Rattle.homefree.specs.declared.register.Register.{Register}
 use Rattle.homefree.specs.declared.register.Running.{Running}
 use Rattle.homefree.specs.Counted.{as_counts, counted_in}
@@ -111,15 +111,6 @@ steps_then old mid new a b c first later one two = record {
 
 -- ---- one note
 
-one_legal : (image : LoadedImage) (count : ℕ) (s t : FlatState) (x : Entry) (refusal : Option Illegal) → refusal_of image count s x ≡ refusal
-    → where_legal refusal (Some (effect image s x)) ≡ Some t → (refusal_of image count s x ≡ None) × (effect image s x ≡ t)
-one_legal image count s t x None is same = (is, cc)
-one_legal image count s t x (Some r) is same = absurd cc
-
-one_is : (image : LoadedImage) (count : ℕ) (s t : FlatState) (x : Entry) → replay_from image count s (x ∷ []) ≡ Some t → (refusal_of image count s x ≡ None) × (effect image s x ≡ t)
-unfolding replay_from
-one_is image count s t x replays = one_legal image count s t x (refusal_of image count s x) refl replays
-
 pub step : (old new : Register) (shares shares' : Counts) (x : Entry) → new.image ≡ old.image → length new.running.items ≡ length old.running.items
     → new.history.items ≡ old.history.items ++ x ∷ [] → vec_capacity old.history ≤ vec_capacity new.history → vec_len new.history ≡ vec_len old.history + 1
     → new.totals ≡ sum_of old.totals (as_counts (count_of x.what)) → shares' ≡ sum_of shares (as_counts (count_of x.what))
@@ -134,7 +125,7 @@ step old new shares shares' x image cores history room used totals held shows = 
   room = room;
   used = used;
   follows = λ s t is_image reached was replays.
-      let one = one_is old.image (length old.running.items) s t x replays in
+      let one = one_legal old.image (length old.running.items) s t x replays in
       subst (Shows new) one.1 (shows s (replayed old.image (length old.running.items) reached.entries s is_image reached.replays) one.0 was);
 }
 

@@ -2,6 +2,7 @@
 use Rattle.std.proofs.Common.{◌≡◌, ◌≢◌, ℕ, ◌&&◌, not, Bool, true, false, Option, Some, None, is_some, refl, sym, ap, ◌∙◌, inl, inr, true≢false}
 use Rattle.std.proofs.Math.Path.{fun_ext}
 use Rattle.std.proofs.lemmas.Bool.{cases_eq, and_right}
+use Rattle.memory_bytes.proofs.SmallFacts.{apart_by_test}
 use Rattle.violations.specs.declared.attempt.Attempt.{Attempt}
 use Rattle.violations.specs.View.{StoreView, attempt_of, epoch_of}
 use Rattle.violations.specs.Rule.{IsSameView, HurtsLater, Guards, Publishes}
@@ -84,12 +85,9 @@ readers_of v w by hurt publishes = record { others = publishes.others.not_itself
 pub one_readers : (v : StoreView) (by : ℕ) (hurt hurt' : ℕ → Bool) → IsReaders v by hurt → IsReaders v by hurt' → hurt ≡ hurt'
 one_readers v by hurt hurt' one other = fun_ext (λ k. pick k (hurt k) (hurt' k) refl refl)
   where
-    apart : (h : ℕ → Bool) → h by ≡ false → (k : ℕ) → h k ≡ true → k ≢ by
-    apart h none k is e = true≢false (sym is ∙ (ap h e ∙ none))
-
     pick : (k : ℕ) (b c : Bool) → hurt k ≡ b → hurt' k ≡ c → hurt k ≡ hurt' k
-    pick k true c e f = e ∙ sym (other.tells k (apart hurt one.others k e) (one.meets k e))
-    pick k false true e f = absurd (true≢false (sym (one.tells k (apart hurt' other.others k f) (other.meets k f)) ∙ e))
+    pick k true c e f = e ∙ sym (other.tells k (apart_by_test hurt by k one.others e) (one.meets k e))
+    pick k false true e f = absurd (true≢false (sym (one.tells k (apart_by_test hurt' by k other.others f) (other.meets k f)) ∙ e))
     pick k false false e f = e ∙ sym f
 
 -- ---- views that are seen the same are one

@@ -8,7 +8,7 @@ use Rattle.rv32_exec.specs.declared.stop.Stop.{Stop}
 use Rattle.rv32_exec.specs.declared.stop.Stop.TheVariants as stop
 use Rattle.rv32_exec.specs.declared.sequential.End.TheVariants as end
 use Rattle.rv32_exec.specs.Arrival.{Arrival}
-use Rattle.rv32_exec.specs.Hart.{HartState, start_of}
+use Rattle.rv32_exec.specs.Hart.{start_of}
 use Rattle.rv32_exec.specs.NextEvent.{next_event}
 use Rattle.rv32_exec.specs.Sequential.{exits}
 use Rattle.spec_history.specs.declared.entry.What.TheVariants.{Start, Load, Store, Restart, Commit, Fault}
@@ -24,6 +24,7 @@ use Rattle.homefree.specs.Moves.{IsHanded}
 use Rattle.homefree.specs.Turned as turn
 use Rattle.homefree.specs.Turned.{Turn, Outcome, Acts, does, entry_of, hurts_of, publish_of, loaded_hart, stored_hart, left_or_over, cause_of, wait_at, IsStale, IsHandedIn}
 use Rattle.homefree.proofs.Fixed.Hurt.{lost, lost_later, hurt_is, later_is, later_of_none, IsReaders, readers_of}
+use Rattle.homefree.proofs.SmallFacts.{stale_not}
 
 -- ---- why the store waits, and whether the core publishes
 
@@ -106,10 +107,6 @@ pub record IsOutcome (t : Turn) (o : Option CoreState) (handed : Bool) (v w : St
   pub out_is : out ≡ outcome t o (wait_here t o) handed first v w
 
 -- ---- whether the stop is handed in
-
-stale_not : (next : Option Arrival) (hart : HartState) → IsStale next hart → IsHandedIn next hart → ⊥
-stale_not None hart stale handed = handed
-stale_not (Some arrival) hart stale handed = stale handed
 
 pub handed_true : (next : Option Arrival) (c : CoreState) (handed : Bool) → IsHanded (Some (kept_of c)) next handed → c.hurt ≡ false → IsHandedIn next c.hart → handed ≡ true
 handed_true next c true is unhurt handed = refl

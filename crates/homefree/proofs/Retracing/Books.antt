@@ -3,6 +3,7 @@ use Rattle.std.proofs.Common.{◌≡◌, ◌≢◌, ◌⊎◌, ℕ, ◌<◌, ◌
 use Rattle.std.proofs.lemmas.Bool.{cases_eq}
 use Rattle.std.proofs.lemmas.List.{append_assoc}
 use Rattle.std.proofs.lemmas.Grind.{flat_map-append}
+use Rattle.memory_bytes.proofs.SmallFacts.{ok_same}
 use Rattle.rv32_image.specs.Image.{LoadedImage, IsImage}
 use Rattle.rv32_image.proofs.SmallFacts.{one_value, none_and_some}
 use Rattle.rv32_exec.specs.declared.sequential.End.{End}
@@ -318,9 +319,6 @@ module _ {S : Type 0} (starts : LoadedImage → ℕ → S → Type 0) (makes : S
         }
 
   -- ---- any turn
-
-  ok_same : (x y : Answer) → (let given : Result Answer TurnFault = Ok x in given ≡ Ok y) → x ≡ y
-  ok_same x y is = cc
 
   module _ (old new : BookView S) (s : FlatState) (shares shares' : Counts) (core : ℕ) (next : Option Arrival) (answer : Answer) (i : InStep view old) (r : IsRetraced starts makes view waits old)
       (replays : ReplaysTo old s) (there : core < old.cores) (takes : MayAct old s → StoreMoves makes view waits (standing_of (turn_at waits old s core next)) old.store new.store)

@@ -291,9 +291,6 @@ module _ (image : LoadedImage) (count : ℕ) (s : FlatState) (v : StoreView) (by
     straight_attempt : (o : Option Attempt) → c.straight ≡ true → o ≡ v.attempt by → o ≡ Some (attempt_of c.epoch true)
     straight_attempt o is same = same ∙ (core.attempt ∙ ap (λ b. Some (attempt_of c.epoch b)) is)
 
-    own_none : c.straight ≡ true → (m : ℕ → ℕ) (a : ℕ) → over c.own m a ≡ m a
-    own_none is m a = ap (λ o. unwrap_or o (m a)) ((kept.core by c at).straight_owns is a)
-
     pub loads_straight : (address width value : ℕ) (signed : Bool) (rd : ℕ) → IsSettled w → c.straight ≡ true → (next_event image c.hart).at ≡ stop.Load address width signed rd
         → LoadsStraight v w by address width value hurt
         → Comes image count s (hurts count s by hurt ++ entry by (Load address width value)) (loaded_straight image t by c value) w
@@ -302,7 +299,7 @@ module _ (image : LoadedImage) (count : ℕ) (s : FlatState) (v : StoreView) (by
         let new : CoreState = record c { hart = hart } in
         let becomes = ap (loaded_by image t by c address width value) is in
         let was = kept.core by c at in
-        let number = sym (l.value_is ∙ number_at_same v.committed (over c.own s.committed) address width (λ a low high. agrees.committed a ∙ sym (own_none is s.committed a))) in
+        let number = sym (l.value_is ∙ number_at_same v.committed (over c.own s.committed) address width (λ a low high. agrees.committed a ∙ sym (ap (λ o. unwrap_or o (s.committed a)) (was.straight_owns is a)))) in
         comes (Load address width value) (loaded_straight image t by c value) w (load_legal address width value signed rd next number) becomes
         (agrees_then (loaded_straight image t by c value) new refl (same_committed l.committed) unhurt
         (straight_core w by s.committed new settled (straight_attempt (w.attempt by) is l.attempt) is (was.straight_owns is) (was.straight_read is) (same_committed l.committed)))

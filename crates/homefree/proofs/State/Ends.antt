@@ -57,18 +57,16 @@ module _ (image : LoadedImage) (count : ℕ) (s : FlatState) (v : StoreView) (by
       }
 
   -- a straight core has nothing of its own
-  all_own : c.straight ≡ true → (m : ℕ → ℕ) (a : ℕ) → over c.own m a ≡ m a
-  all_own is m a = ap (λ o. unwrap_or o (m a)) ((kept.core by c at).straight_owns is a)
-
   by_straight : c.straight ≡ true → HasPublished image count s by c v (λ _. false)
   by_straight is =
-      let m = over c.own s.committed in record {
+      let m = over c.own s.committed in
+      let same : (a : ℕ) → m a ≡ s.committed a = λ a. ap (λ o. unwrap_or o (s.committed a)) ((kept.core by c at).straight_owns is a) in record {
         replays = ap (replay_from image count s) (none_among by (λ k. Hurt (epoch_on s.cores k)) count) ∙ no_entry image count s;
         at = at;
-        committed = λ a. agrees.committed a ∙ sym (all_own is s.committed a);
-        others = λ k other. same_at s.committed m v v k (s.cores k) (refl, refl) (all_own is s.committed)
+        committed = λ a. agrees.committed a ∙ sym (same a);
+        others = λ k other. same_at s.committed m v v k (s.cores k) (refl, refl) same
             (record { attempt = refl; own = λ a. refl; guarded = λ a. refl; sees = λ a. refl }) (agrees.core going k);
-        spares = λ k d at_k other free a byte read. all_own is s.committed a;
+        spares = λ k d at_k other free a byte read. same a;
       }
 
   publishing_by : (x : StoreView) (hurt : ℕ → Bool) (b : Bool) → c.straight ≡ b → publishes_unless b v x by hurt → HasPublished image count s by c x hurt

@@ -1,8 +1,8 @@
 -- The entries of a turn: what each violation was about is known, and over caches nobody is passed over.
-use Rattle.std.proofs.Common.{◌≡◌, ◌≢◌, ℕ, zero, suc, ◌+◌, ◌<◌, ◌≤◌, ◌&&◌, Bool, true, false, is_some, List, [], ◌++◌, Option, Some, None, if◌then◌else◌, refl, sym, ap, subst, ◌∙◌, inl, inr, arith}
+use Rattle.std.proofs.Common.{◌≡◌, ◌≢◌, ℕ, zero, suc, ◌<◌, ◌&&◌, Bool, true, false, is_some, List, [], ◌++◌, Option, Some, None, if◌then◌else◌, refl, sym, ap, subst, ◌∙◌}
 use Rattle.std.proofs.lemmas.Bool.{eq-eqb}
 use Rattle.std.proofs.lemmas.List.{append_assoc}
-use Rattle.memory_bytes.specs.Bytes.{IsWidth}
+use Rattle.memory_bytes.proofs.SmallFacts.{starts_inside}
 use Rattle.rv32_image.specs.Image.{LoadedImage}
 use Rattle.rv32_image.specs.Machine.{IsMachineFor}
 use Rattle.rv32_exec.specs.declared.stop.Stop.TheVariants as stop
@@ -116,12 +116,7 @@ module _ (C : Type 0) (t : Turn) (v w : StoreView) (out : Outcome) (going : t.st
   store_inside : (core : CoreState) (address width value : ℕ) → (next_event t.image core.hart).at ≡ stop.Store address width value → address < t.image.size
   store_inside core address width value event =
       let at : IsStopOf t.image (next_event t.image core.hart).now (stop.Store address width value) = subst (IsStopOf t.image (next_event t.image core.hart).now) event (stop_of_event t.image core.hart) in
-      inside address width t.image.size at.access.wide at.access.within
-    where
-      inside : (address width size : ℕ) → IsWidth width → address + width ≤ size → address < size
-      inside address width size (inl one) within = omega (arith, one, within)
-      inside address width size (inr (inl two)) within = omega (arith, two, within)
-      inside address width size (inr (inr four)) within = omega (arith, four, within)
+      starts_inside address width t.image.size at.access.wide at.access.within
 
   loads_known_here : (x : turn.IsLoad t v w out) → Known out.entries
   loads_known_here x =

@@ -8,15 +8,15 @@ use Rattle.rv32_image.proofs.SmallFacts.{one_value}
 use Rattle.spec_history.specs.declared.entry.Entry.{Entry}
 use Rattle.spec_history.specs.declared.entry.What.{What}
 use Rattle.spec_history.specs.declared.entry.What.TheVariants.{Hurt}
-use Rattle.spec_history.specs.declared.illegal.Illegal.{Illegal}
 use Rattle.spec_history.specs.Effect.{effect}
 use Rattle.spec_history.specs.FlatState.{CoreState, FlatState}
 use Rattle.spec_history.specs.Refusal.{refusal_of}
-use Rattle.spec_history.specs.Replay.{where_legal, replay, replay_from}
+use Rattle.spec_history.specs.Replay.{replay, replay_from}
 use Rattle.spec_history.proofs.Replay.Reaching.{one_more_entry}
 use Rattle.spec_history.specs.Conflict.{AreKnown, entry_is, passes, is_notice, can_cause, cause_of, what_at}
 use Rattle.spec_history.proofs.Searches.Tests.{first_at}
 use Rattle.spec_history.proofs.Replay.Staying.{stays, there}
+use Rattle.spec_history.proofs.Replay.Replays.{legal_first}
 use Rattle.homefree.specs.Caused.{IsKnown, HasKinds, MeetsInBytes, MeetInBytes}
 use Rattle.homefree.specs.Missed.{IsMissed, IsFurtherStore, PassesOverNone}
 
@@ -153,13 +153,6 @@ PassedHere C image s e = C → (k : ℕ) → IsMissed image s e k → IsFurtherS
 abbrev pub AllKnown : Type 0 → Type 0 → LoadedImage → FlatState → List Entry → Type 0
 AllKnown B C image s [] = Unit {0}
 AllKnown B C image s (e ∷ es) = KnownHere B image s e es × PassedHere C image s e × AllKnown B C image (effect image s e) es
-
-none_some : (r : Illegal) (o : Option FlatState) (t : FlatState) → where_legal (Some r) o ≡ Some t → ⊥
-none_some r o t is = cc
-
-legal_first : (refusal : Option Illegal) (o : Option FlatState) (t : FlatState) → where_legal refusal o ≡ Some t → (refusal ≡ None) × (o ≡ Some t)
-legal_first None o t is = (refl, is)
-legal_first (Some r) o t is = absurd (none_some r o t is)
 
 first_legal : (image : LoadedImage) (count : ℕ) (s t : FlatState) (e : Entry) (es : List Entry) → replay_from image count s (e ∷ es) ≡ Some t
     → (refusal_of image count s e ≡ None) × (replay_from image count (effect image s e) es ≡ Some t)

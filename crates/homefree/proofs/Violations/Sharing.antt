@@ -11,7 +11,7 @@ use Rattle.spec_history.specs.declared.entry.What.{What}
 use Rattle.spec_history.specs.declared.entry.What.TheVariants.{Load, Store}
 use Rattle.spec_history.specs.FlatState.{CoreState}
 use Rattle.spec_history.proofs.Searches.Lines.{line_passes, number_counted, same_line_below}
-use Rattle.spec_history.proofs.Searches.Tests.{one_passes}
+use Rattle.spec_history.proofs.Searches.Tests.{one_passes, count_same}
 use Rattle.spec_history.specs.Refusal.{any_below}
 use Rattle.spec_history.specs.declared.kind.Kind.{Kind}
 use Rattle.spec_history.specs.declared.kind.Kind.TheVariants.{TrueSharing, SilentStore, FalseSharing, FullBuffer, Unexplained}
@@ -80,18 +80,16 @@ is_shared_byte image v m cause c a alone reads within written read =
 
 -- ---- numbers that pass, counted
 
-counts_same : (n : ℕ) (f g : ℕ → Bool) → ((k : ℕ) → k < n → f k ≡ g k) → count_below n f ≡ count_below n g
-unfolding count_below
-counts_same zero f g same = refl
-counts_same (suc n) f g same = rw (counts_same n f g (λ k below. same k (omega (arith, below))), same n (omega arith)) refl
-
-abbrev but : (ℕ → Bool) → ℕ → ℕ → Bool
+-- all that pass the test but one
+abbrev pub but : (ℕ → Bool) → ℕ → ℕ → Bool
 but test i j = not (j == i) && test j
 
-unless_this : (test : ℕ → Bool) (i j : ℕ) → j ≢ i → but test i j ≡ test j
+-- each other passes still
+pub unless_this : (test : ℕ → Bool) (i j : ℕ) → j ≢ i → but test i j ≡ test j
 unless_this test i j other = rw (ne_eqb j i other) refl
 
-not_this : (test : ℕ → Bool) (i : ℕ) → but test i i ≡ false
+-- and this one doesn't
+pub not_this : (test : ℕ → Bool) (i : ℕ) → but test i i ≡ false
 not_this test i = rw (eq-eqb i i refl) refl
 
 -- without one that passes there is one fewer
@@ -100,7 +98,7 @@ unfolding count_below
 one_fewer zero test i below passes = absurd (omega (arith, below))
 one_fewer (suc n) test i below passes = elim (cases_eq i n) [
   | inl e ↦
-      (let others : count_below n test ≡ count_below n (but test n) = counts_same n test (but test n) (λ k low. sym (unless_this test n k (λ same. absurd (omega (arith, same, low))))) in
+      (let others : count_below n test ≡ count_below n (but test n) = count_same n test (but test n) (λ k low. sym (unless_this test n k (λ same. absurd (omega (arith, same, low))))) in
       rw (e, others, not_this test n, sym (ap test e) ∙ passes) (omega arith))
   | inr other ↦
       (let rest = one_fewer n test i (omega (arith, below, other)) passes in
