@@ -5,11 +5,11 @@ use Rattle.rv32_image.specs.declared.fault.ImageFault.{ImageFault}
 use Rattle.rv32_image.specs.Image.{LoadedImage}
 use Rattle.rv32_image.specs.ImageText.{image_text}
 use Rattle.spec_history.specs.declared.entry.Entry.{Entry}
-use Rattle.spec_history.specs.declared.illegal.Illegal.{Illegal}
 use Rattle.spec_history.specs.Effect.{effect}
 use Rattle.spec_history.specs.FlatState.{FlatState, first_state}
 use Rattle.spec_history.specs.Refusal.{refusal_of}
-use Rattle.spec_history.specs.Replay.{replay, replay_from, where_legal}
+use Rattle.spec_history.specs.Replay.{replay, replay_from}
+use Rattle.spec_history.proofs.Replay.Replays.{legal_first}
 use Rattle.trace_text.specs.declared.fault.TraceFault.{TraceFault}
 use Rattle.trace_text.specs.declared.fault.TraceFaultKind.{TraceFaultKind}
 use Rattle.trace_text.specs.declared.fault.TraceFaultKind.TheVariants as kind
@@ -25,10 +25,6 @@ use Rattle.trace_commands.specs.Laws.{FindsLegal, PrintedIsLegal}
 
 -- ---- no entry of a history that replays is refused
 
-by_legal : (refusal : Option Illegal) (next : Option FlatState) (last : FlatState) → where_legal refusal next ≡ Some last → (refusal ≡ None) × (next ≡ Some last)
-by_legal None next last is = (refl, is)
-by_legal (Some r) next last is = absurd cc
-
 module _ (image : LoadedImage) (cores : ℕ) where
   legal_from : (entries : List Entry) (place : ℕ) (s before last : FlatState) (entry : Entry) → replay_from image cores s entries ≡ Some last
       → replay_from image cores s (take place entries) ≡ Some before → slice_get entries place ≡ Some entry → refusal_of image cores before entry ≡ None
@@ -38,11 +34,11 @@ module _ (image : LoadedImage) (cores : ℕ) where
   legal_from (first ∷ rest) zero s before last entry all some there =
       let here : s ≡ before = cc in
       let same : first ≡ entry = cc in
-      (λ k. refusal_of image cores (sym here k) (sym same k)) ∙ (by_legal (refusal_of image cores s first) (replay_from image cores (effect image s first) rest) last all).0
+      (λ k. refusal_of image cores (sym here k) (sym same k)) ∙ (legal_first (refusal_of image cores s first) (replay_from image cores (effect image s first) rest) last all).0
   legal_from (first ∷ rest) (suc place) s before last entry all some there =
       legal_from rest place (effect image s first) before last entry
-      (by_legal (refusal_of image cores s first) (replay_from image cores (effect image s first) rest) last all).1
-      (by_legal (refusal_of image cores s first) (replay_from image cores (effect image s first) (take place rest)) before some).1 there
+      (legal_first (refusal_of image cores s first) (replay_from image cores (effect image s first) rest) last all).1
+      (legal_first (refusal_of image cores s first) (replay_from image cores (effect image s first) (take place rest)) before some).1 there
 
   legal_at : (entries : List Entry) (place : ℕ) (before last : FlatState) (entry : Entry) → replay image cores entries ≡ Some last
       → replay image cores (take place entries) ≡ Some before → slice_get entries place ≡ Some entry → refusal_of image cores before entry ≡ None
