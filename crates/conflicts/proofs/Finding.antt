@@ -1,8 +1,8 @@
 -- Whether a search found a given place.
 use Rattle.std.proofs.Common.{◌≡◌, ℕ, zero, suc, ◌<◌, ◌≤◌, ◌&&◌, ◌||◌, Bool, true, false, is_none, Option, Some, None, unwrap_or, if◌then◌else◌, refl, sym, ap, ◌∙◌, inl, inr, arith, lt-ltb, le-ltb, ne_eqb}
-use Rattle.std.specs.Option.{option_or}
 use Rattle.std.proofs.lemmas.Bool.{cases_eq, eq-eqb, both_ways}
 use Rattle.spec_history.specs.Searches.{first_below, last_below}
+use Rattle.spec_history.proofs.Searches.Tests.{first_found}
 use Rattle.conflicts.specs.Attempts.{is_after}
 use Rattle.conflicts.specs.Blame.{is_place}
 use Rattle.conflicts.proofs.Backwards.{from_start, last_at, none_after}
@@ -47,44 +47,6 @@ none_last (suc n) test is k below = none_step (test n) n (last_below n test) (te
   | inl e ↦ ap test e ∙ fails
   | inr other ↦ none_last n test rest k (omega (arith, below, other))
 ])
-
-pub record IsFirst (n : ℕ) (test : ℕ → Bool) (k : ℕ) : Type 0 where
-  pub within : k < n
-  pub passes : test k ≡ true
-  pub first : (j : ℕ) → j < k → test j ≡ false
-
-unfound_step : (o : Option ℕ) (b : Bool) (n : ℕ) (P : Type 0) → option_or o (if b then Some n else None) ≡ None → (o ≡ None → b ≡ false → P) → P
-unfound_step (Some i) b n P is one = absurd cc
-unfound_step None true n P is one = absurd cc
-unfound_step None false n P is one = one refl refl
-
-pub none_first : (n : ℕ) (test : ℕ → Bool) → first_below n test ≡ None → (k : ℕ) → k < n → test k ≡ false
-unfolding first_below
-none_first zero test is k below = absurd (omega (arith, below))
-none_first (suc n) test is k below = unfound_step (first_below n test) (test n) n (test k ≡ false) is (λ rest fails. elim (cases_eq k n) [
-  | inl e ↦ ap test e ∙ fails
-  | inr other ↦ none_first n test rest k (omega (arith, below, other))
-])
-
-first_step : (o : Option ℕ) (b : Bool) (n k : ℕ) (P : Type 0) → option_or o (if b then Some n else None) ≡ Some k → (o ≡ Some k → P) → (o ≡ None → b ≡ true → n ≡ k → P) → P
-first_step (Some i) b n k P is one other = one is
-first_step None true n k P is one other = other refl refl (ap (λ o. unwrap_or o 0) is)
-first_step None false n k P is one other = absurd cc
-
-pub first_found : (n : ℕ) (test : ℕ → Bool) (k : ℕ) → first_below n test ≡ Some k → IsFirst n test k
-unfolding first_below
-first_found zero test k is = absurd cc
-first_found (suc n) test k is = first_step (first_below n test) (test n) n k (IsFirst (suc n) test k) is
-    (λ rest. let found = first_found n test k rest in record {
-      within = omega (arith, found.within);
-      passes = found.passes;
-      first = found.first;
-    })
-    (λ none passes same. record {
-      within = omega (arith, same);
-      passes = ap test (sym same) ∙ passes;
-      first = λ j before. none_first n test none j (omega (arith, before, same));
-    })
 
 -- ---- whether it is a given place
 

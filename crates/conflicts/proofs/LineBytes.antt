@@ -3,12 +3,13 @@ use Rattle.std.proofs.Common.{◌≡◌, ℕ, ◌+◌, ◌-◌, ◌*◌, ◌/◌
 use Rattle.std.proofs.Math.Nat.{div-mul-le_self, mod-lt, mul-le-mul_right}
 use Rattle.std.proofs.lemmas.Bool.Decides.{nat_tests}
 use Rattle.std.proofs.lemmas.Nat.{div-add-mod'}
+use Rattle.memory_bytes.proofs.SmallFacts.{none_or_some}
 use Rattle.rv32_image.specs.declared.apart.Apart.{Apart}
 use Rattle.rv32_image.specs.declared.machine.Machine.{Machine}
 use Rattle.rv32_image.specs.Image.{LoadedImage}
 use Rattle.rv32_image.specs.Machine.{IsMachineFor, is_line_length}
 use Rattle.rv32_image.specs.Places.{lies_apart, place, place_by, place_with}
-use Rattle.rv32_image.proofs.Bounds.{by_length}
+use Rattle.rv32_image.proofs.Bounds.{by_length, behind_line}
 use Rattle.rv32_image.proofs.Places.{place-none, place-stays}
 use Rattle.spec_history.specs.Conflict.{line_number, line_count}
 use Rattle.conflicts.specs.declared.explanation.ByteRange.{ByteRange}
@@ -25,15 +26,7 @@ low_line n p size h = by_length (λ n. size % n ≡ 0 → p / n < size / n → p
 high_line : (n p size : ℕ) → is_line_length n ≡ true → size % n ≡ 0 → size / n ≤ p / n → size ≤ p
 high_line n p size h = by_length (λ n. size % n ≡ 0 → size / n ≤ p / n → size ≤ p) n h (λ w b. omega arith) (λ w b. omega arith) (λ w b. omega arith)
 
-behind_line : (n size q r : ℕ) → is_line_length n ≡ true → size % n ≡ 0 → r < n → (size + (q * n + r)) / n ≡ size / n + q
-behind_line n size q r h =
-    by_length (λ n. size % n ≡ 0 → r < n → (size + (q * n + r)) / n ≡ size / n + q) n h (λ w b. omega arith) (λ w b. omega arith) (λ w b. omega arith)
-
 -- ---- places
-
-some_or_none : (o : Option Apart) → (o ≡ None) ⊎ ((x : Apart) × (o ≡ Some x))
-some_or_none None = inl refl
-some_or_none (Some x) = inr (x, refl)
 
 -- a byte behind memory is one that lies apart
 record IsBehind (image : LoadedImage) (a : ℕ) : Type 0 where
@@ -57,7 +50,7 @@ at_past apart n size a e le = let f : nat_lt a size ≡ false = grind (arith, na
 -- a byte of memory stays at its address, or lies behind memory
 stays_or_behind : (image : LoadedImage) (a : ℕ) → a < image.size → (place image.machine image.size a ≡ a) ⊎ IsBehind image a
 stays_or_behind image a lt =
-    elim (some_or_none image.machine.apart) [
+    elim (none_or_some image.machine.apart) [
       | inl none ↦ inl (place-none image.machine image.size a none)
       | inr x ↦ pick x.0 x.1 (lies_apart x.0 a) refl
     ]
@@ -133,7 +126,7 @@ module _ (image : LoadedImage) (fits : IsMachineFor image.size image.machine) wh
   -- the number of a line past memory
   pub number_past : (a : ℕ) → image.size ≤ a → a / long + (place image.machine image.size image.size - image.size) / long ≡ line_number image a
   number_past a le =
-      elim (some_or_none image.machine.apart) [
+      elim (none_or_some image.machine.apart) [
         | inl none ↦
             let here = place-none image.machine image.size a none in
             let end = place-none image.machine image.size image.size none in
@@ -166,7 +159,7 @@ module _ (image : LoadedImage) (fits : IsMachineFor image.size image.machine) wh
 
   -- those are addresses of memory
   inside : (line : ℕ) → line < line_count image → (line_bytes image line).first + (line_bytes image line).length ≤ image.size
-  inside line lt = pick (nat_lt line lines) refl (some_or_none image.machine.apart)
+  inside line lt = pick (nat_lt line lines) refl (none_or_some image.machine.apart)
     where
       ends : (n line : ℕ) → is_line_length n ≡ true → image.size % n ≡ 0 → line < image.size / n → line * n + n ≤ image.size
       ends n line h = by_length (λ n. image.size % n ≡ 0 → line < image.size / n → line * n + n ≤ image.size) n h (λ w b. omega arith) (λ w b. omega arith) (λ w b. omega arith)

@@ -8,7 +8,7 @@ use Rattle.spec_history.proofs.Searches.Lines.{passing_byte}
 use Rattle.spec_history.specs.Searches.{IsNext, count_below}
 use Rattle.spec_history.specs.Conflict.{Meeting, holds_line, line_number}
 use Rattle.conflicts.specs.Parties.{holds_other}
-use Rattle.spec_history.proofs.Searches.Tests.{count_none, count_one}
+use Rattle.spec_history.proofs.Searches.Tests.{count_none, count_one, count_up}
 use Rattle.conflicts.proofs.Blaming.{either_way}
 
 -- ---- the nearest of so many lines
@@ -88,25 +88,11 @@ skipped : (n : ℕ) (test : ℕ → Bool) → test n ≡ false → count_below (
 unfolding count_below
 skipped n test fails = rw fails (omega arith)
 
-grown : (n : ℕ) (test : ℕ → Bool) → count_below n test ≤ count_below (suc n) test
-unfolding count_below
-grown n test = omega arith
-
 pub count_past : (from n : ℕ) (test : ℕ → Bool) → from ≤ n → ((j : ℕ) → from ≤ j → j < n → test j ≡ false) → count_below n test ≡ count_below from test
 count_past from zero test most none = ap (λ k. count_below k test) (omega (arith, most))
 count_past from (suc n) test most none = elim (cases_eq from (suc n)) [
   | inl e ↦ ap (λ k. count_below k test) (sym e)
   | inr other ↦ skipped n test (none n (omega (arith, most, other)) (omega arith)) ∙ count_past from n test (omega (arith, most, other)) (λ j after below. none j after (omega (arith, below)))
-]
-
-ap_le : {a b : ℕ} → a ≡ b → a ≤ b
-ap_le is = omega (arith, is)
-
-pub count_most : (from n : ℕ) (test : ℕ → Bool) → from ≤ n → count_below from test ≤ count_below n test
-count_most from zero test most = ap_le (ap (λ k. count_below k test) (omega (arith, most)))
-count_most from (suc n) test most = elim (cases_eq from (suc n)) [
-  | inl e ↦ ap_le (ap (λ k. count_below k test) e)
-  | inr other ↦ omega (arith, count_most from n test (omega (arith, most, other)), grown n test)
 ]
 
 -- what is so after the first numbers: none was passed over
@@ -136,4 +122,4 @@ too_few test from end found lines count wanted next is past was few =
 
 -- there are enough
 pub enough : (test : ℕ → Bool) (from end count wanted : ℕ) → IsCounted test end from count → wanted ≤ count → true ≡ nat_le wanted (count_below end test)
-enough test from end count wanted was all = sym (le-leb wanted (count_below end test) (omega (arith, was.counted, all, count_most from end test was.within)))
+enough test from end count wanted was all = sym (le-leb wanted (count_below end test) (omega (arith, was.counted, all, count_up from end test was.within)))

@@ -17,6 +17,7 @@ use Rattle.spec_history.proofs.OneEntry.Legal.{IsLegalEntry, legal_entry, some_b
 use Rattle.spec_history.proofs.Searches.Tests.{all_fail, one_passes}
 use Rattle.spec_history.proofs.Replay.Replays.{Whole, replayed, effect-on}
 use Rattle.spec_history.specs.Conflict.{written, meeting, is_changed, read_bytes}
+use Rattle.spec_history.proofs.OneEntry.Entries.{hurt_there}
 use Rattle.conflicts.specs.Laws.{commits, missed_by}
 
 -- the state in which the core of this epoch is hurt
@@ -95,14 +96,10 @@ unfolding any_below
 any_same zero test test' same = refl
 any_same (suc n) test test' same = rw (same n (omega arith), any_same n test test' (λ k below. same k (omega arith))) refl
 
-some_same : (epoch : ℕ) (core : Option CoreState) → is_some (hurt_at epoch core) ≡ is_some core
-some_same epoch None = refl
-some_same epoch (Some c) = refl
-
 others_same : (count : ℕ) (s : FlatState) (epoch by : ℕ) → other_runs count (with_hurt s epoch) by ≡ other_runs count s by
 others_same count s epoch by =
     any_same count (λ k. not (k == by) && is_some (hurt_at epoch (s.cores k))) (λ k. not (k == by) && is_some (s.cores k))
-    (λ k below. ap (λ b. not (k == by) && b) (some_same epoch (s.cores k)))
+    (λ k below. ap (λ b. not (k == by) && b) (hurt_there epoch (s.cores k)))
 
 cancel_same : (image : LoadedImage) (count : ℕ) (s : FlatState) (epoch by : ℕ) (what : What) → commits (s.cores by) what ≡ true → hurt_at epoch (s.cores by) ≡ s.cores by
     → misses_a_cancel image count (with_hurt s epoch) by what ≡ misses_a_cancel image count s by what

@@ -8,10 +8,10 @@ use Rattle.spec_history.specs.declared.kind.Kind.{Kind}
 use Rattle.spec_history.specs.declared.kind.Kind.TheVariants.{TrueSharing, SilentStore, FalseSharing, FullBuffer, Unexplained}
 use Rattle.std.proofs.lemmas.Bool.{and_parts, eq-eqb, eqb-true}
 use Rattle.spec_history.specs.Conflict.{Meeting, is_beside, line_number}
+use Rattle.spec_history.proofs.Searches.Tests.{first_found}
 use Rattle.conflicts.specs.Attempts.{last_store}
 use Rattle.conflicts.specs.Blame.{Violation, blamed_store, goes_with, is_place, store_beside, store_to, stored_by, written_in}
 use Rattle.conflicts.specs.Violated.{has_one_store, is_store}
-use Rattle.conflicts.proofs.Finding.{first_found}
 
 no_store : (kind : Kind) (what : What) → has_one_store kind what ≡ false → is_store what ≡ false
 no_store TrueSharing what is = is

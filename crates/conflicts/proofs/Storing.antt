@@ -1,19 +1,18 @@
 -- The stores that an attempt has ahead of it: their list as it is made, and the first of them to a byte.
-use Rattle.std.proofs.Common.{◌≡◌, ◌⊎◌, ℕ, ◌+◌, ◌<◌, ◌≤◌, ◌==◌, ◌&&◌, ◌||◌, Bool, true, false, cond, nat_le, nat_lt, List, [], ◌∷◌, ◌++◌, length, get_or, Option, Some, None, min, unwrap_or, refl, sym, ap, subst, ◌∙◌, inl, inr, arith, eqb-true, eq-eqb, leb-true, ltb-true, ltb-false, leb-false, le-leb, lt-ltb}
+use Rattle.std.proofs.Common.{◌≡◌, ◌⊎◌, ℕ, ◌+◌, ◌<◌, ◌≤◌, ◌==◌, ◌&&◌, Bool, true, false, nat_le, nat_lt, List, [], ◌∷◌, ◌++◌, length, get_or, Option, Some, None, min, unwrap_or, refl, sym, ap, subst, ◌∙◌, inl, inr, arith, eqb-true, eq-eqb, leb-true, ltb-true, ltb-false, leb-false, le-leb, lt-ltb}
 use Rattle.std.specs.Cmp.{IsTotalOrder}
 use Rattle.std.specs.List.{Contains}
 use Rattle.std.specs.List.Sorted.{IsPartitionPoint, IsPartitionedBy, IsPermutation, IsSorted}
 use Rattle.std.specs.Ordering.{is_eq, is_lt, nat_cmp, ordering_then}
 use Rattle.std.specs.BTreeMap.{BTreeMap, IsUnchanged, Updates, get, is_at}
 use Rattle.std.specs.Map.{lookup}
-use Rattle.std.specs.declared.cmp.Ordering.{Ordering}
-use Rattle.std.specs.declared.cmp.Ordering.TheVariants.{Less, Equal, Greater}
-use Rattle.std.proofs.lemmas.Bool.{cases_eq, false_from_ne_true, or_right}
+use Rattle.std.proofs.lemmas.Bool.{cases_eq, false_from_ne_true, or_right, and_parts, or_cases}
 use Rattle.std.proofs.lemmas.Cmp.{nat_cmp_total, on_total, then_total}
 use Rattle.std.proofs.lemmas.List.{get_or_default}
 use Rattle.std.proofs.lemmas.Option.{slice_get_cases}
 use Rattle.std.proofs.lemmas.List.Elements.{Contains-append_left, Contains-push, Contains-push_cases}
 use Rattle.std.proofs.lemmas.List.Sorted.{Contains-permutation, IsPermutation-sym, ranks_by, sorted_far}
+use Rattle.memory_bytes.proofs.SmallFacts.{by_numbers}
 use Rattle.spec_history.specs.declared.entry.Entry.{Entry}
 use Rattle.spec_history.specs.Searches.{IsNext}
 use Rattle.conflicts.specs.declared.ahead.Ahead.{Ahead}
@@ -102,21 +101,6 @@ ends_after begins after count end within next = either_way (nat_lt end count) (a
 total : IsTotalOrder byte_order
 total = then_total (on_total (λ (p : ℕ × ℕ). p.0) nat_cmp_total) (on_total (λ (p : ℕ × ℕ). p.1) nat_cmp_total)
 
-by_tests : (t e : Bool) (P : Ordering → Type 0) → (t ≡ true → P Less) → (t ≡ false → e ≡ true → P Equal) → (t ≡ false → e ≡ false → P Greater)
-    → P (cond t Less (cond e Equal Greater))
-by_tests true e P l q g = l refl
-by_tests false true P l q g = q refl refl
-by_tests false false P l q g = g refl refl
-
-unequal : (a b : ℕ) → (a == b) ≡ false → b ≤ a → b < a
-unequal a b is most = elim (cases_eq a b) [
-  | inl e ↦ let same : (a == b) ≡ true = eq-eqb a b e in absurd cc
-  | inr other ↦ omega (arith, most, other)
-]
-
-by_numbers : (a b : ℕ) (P : Ordering → Type 0) → (a < b → P Less) → (a ≡ b → P Equal) → (b < a → P Greater) → P (nat_cmp a b)
-by_numbers a b P l q g = by_tests (nat_lt a b) (a == b) P (λ is. l (ltb-true a b is)) (λ no is. q (eqb-true a b is)) (λ no ne. g (unequal a b ne (ltb-false a b no)))
-
 -- not after another
 abbrev IsUpTo : ℕ × ℕ → ℕ × ℕ → Type 0
 IsUpTo x y = (x.0 < y.0) ⊎ ((x.0 ≡ y.0) × (x.1 ≤ y.1))
@@ -139,15 +123,10 @@ in_order xs sorted i j d up below =
 abbrev Before : ℕ → ℕ → ℕ × ℕ → Type 0
 Before addr after x = (x.0 < addr) ⊎ ((x.0 ≡ addr) × (x.1 ≤ after))
 
-by_both : (t e m : Bool) → (t || (e && m)) ≡ true → (t ≡ true) ⊎ ((e ≡ true) × (m ≡ true))
-by_both true e m is = inl refl
-by_both false true m is = inr (refl, is)
-by_both false false m is = absurd cc
-
 before : (addr after : ℕ) (x : ℕ × ℕ) → is_before addr after x ≡ true → Before addr after x
-before addr after x is = elim (by_both (nat_lt x.0 addr) (x.0 == addr) (nat_le x.1 after) is) [
+before addr after x is = elim (or_cases (nat_lt x.0 addr) ((x.0 == addr) && nat_le x.1 after) is) [
   | inl less ↦ inl (ltb-true x.0 addr less)
-  | inr both ↦ inr (eqb-true x.0 addr both.0, leb-true x.1 after both.1)
+  | inr same ↦ (let both = and_parts (x.0 == addr) (nat_le x.1 after) same in inr (eqb-true x.0 addr both.0, leb-true x.1 after both.1))
 ]
 
 is_so : (addr after : ℕ) (x : ℕ × ℕ) → Before addr after x → is_before addr after x ≡ true

@@ -5,6 +5,7 @@ use Rattle.std.specs.Map.{lookup}
 use Rattle.std.specs.Option.{option_or}
 use Rattle.std.specs.Ordering.{nat_cmp}
 use Rattle.std.proofs.lemmas.Bool.{cases_eq, and_right}
+use Rattle.memory_bytes.proofs.SmallFacts.{none_is}
 use Rattle.spec_history.specs.declared.entry.Entry.{Entry}
 use Rattle.spec_history.specs.Searches.{first_below, last_below}
 use Rattle.spec_history.proofs.Searches.Tests.{first_none}
@@ -32,10 +33,6 @@ still first addr a apart = ap (λ b. nat_le first a && b) (either_way (nat_lt a 
       | inl e ↦ absurd (apart e)
       | inr other ↦ omega (arith, other, ltb-false a addr isnt)
     ]) ∙ sym isnt))
-
-none_is : (o : Option ℕ) → is_none o ≡ true → o ≡ None
-none_is None is = refl
-none_is (Some k) is = absurd cc
 
 -- one byte more was stored
 pub store_more : (first addr place : ℕ) (old before new : ℕ → Option ℕ) → first ≤ addr → ((a : ℕ) → before a ≡ kept_last (is_within first addr a) (old a) place)

@@ -1,6 +1,6 @@
-use Rattle.std.proofs.Common.{◌≡◌, ◌<◌, ◌∙◌, Result, Ok, Err, OnOk, All, IfSome, false, length, sym, ap, subst, inl, arith}
-use Rattle.std.specs.Result.{is_err}
+use Rattle.std.proofs.Common.{◌≡◌, ◌<◌, ◌∙◌, All, IfSome, length, sym, ap, subst, inl, arith}
 use Rattle.std.proofs.lemmas.Option.{slice_get-get_or}
+use Rattle.memory_bytes.proofs.SmallFacts.{ok_holds}
 use Rattle.rv32_image.specs.Image.{LoadedImage}
 use Rattle.spec_history.specs.View.{state_in, cores_in}
 use Rattle.spec_history.proofs.Replay.Reaching.{no_entries, audited_more, audited_fault}
@@ -26,10 +26,6 @@ returns-in-Err-clause-legal c =
     let below : c.loop-place.place < length c.args.entries.now = omega (arith, c.loop-place-test.true) in
     inl (audited_fault c.args.image.now c.args.cores c.args.entries.now c.loop-place.place c.in-Err.illegal _ c.loop-place.flat c.apply.new.self was.image was.cores was.replays below c.in-Err.ensures.answer)
 
-kept : {A B : Type 0} (r : Result A B) (P : Type 0) → is_err r ≡ false → OnOk r P → P
-kept (Ok x) P is on = on
-kept (Err e) P is on = absurd cc
-
 pub loop-place-preserved : goal.loop-place-preserved
 loop-place-preserved c =
     let was = c.loop-place.invariant in
@@ -43,7 +39,7 @@ loop-place-preserved c =
     let legal = legal_in own c.args.cores (cores_in c.loop-place.flat) (state_in c.loop-place.flat) _ was.cores applied.legal in
     let there = found.found _ (slice_get-get_or entries place _ below) legal in
     let explained = subst (λ (i : LoadedImage). IfSome c.in-Ok-explanation_at.found (λ e. (e.place ≡ place) × IsExplainedIn i (state_in c.loop-place.flat) entries e)) was.image found.explained in
-    let grown = kept c.keep.result _ (sym c.is_err.ensures.value ∙ c.if-is_err.false) c.keep.ensures in record {
+    let grown = ok_holds c.keep.result _ (sym c.is_err.ensures.value ∙ c.if-is_err.false) c.keep.ensures in record {
       image = same.image ∙ was.image;
       cores = same.cores ∙ was.cores;
       replays = audited_more c.args.image.now c.args.cores entries place _ c.loop-place.flat c.apply.new.self was.image was.cores was.replays below applied;
