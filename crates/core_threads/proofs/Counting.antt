@@ -47,11 +47,6 @@ counts-append [] b = sum_none (counts_in b) ∙ ap (λ c. sum_of c (counts_in b)
 counts-append (e ∷ es) b =
     counts-cons e (es ++ b) ∙ (ap (sum_of (one e)) (counts-append es b) ∙ (sum_turns (one e) (counts_in es) (counts_in b) ∙ ap (λ c. sum_of c (counts_in b)) (sym (counts-cons e es))))
 
--- no entries count nothing more
-pub none_more : (a : Counts) → a ≡ sum_of a (counted_in [])
-unfolding counts_of
-none_more a = counts_same a.loads _ a.stores _ a.restarts _ a.commits _ (omega arith) (omega arith) (omega arith) (omega arith)
-
 pub history-length : (past : Past) → length (history_of past) ≡ length past
 history-length [] = refl
 history-length (e ∷ es) = ap suc (history-length es)

@@ -22,9 +22,10 @@ use Rattle.homefree.specs.BookView.{BookView, IsOfSameLoop}
 use Rattle.homefree.specs.Counted.{counted_in, IsNoMore}
 use Rattle.homefree.specs.LockView.{loop_of, past_of}
 use Rattle.homefree.specs.Room.{most_room}
+use Rattle.homefree.proofs.Books.Turns.{sum_nothing}
 use Rattle.core_threads.specs.Adds.{Adds}
 use Rattle.core_threads.specs.Passes.{Knows, IsCounted, IsOver, counts_in}
-use Rattle.core_threads.proofs.Counting.{none_more, own_no_more, counts-append, counts-past, past-append, past-length, history-past}
+use Rattle.core_threads.proofs.Counting.{own_no_more, counts-append, counts-past, past-append, past-length, history-past}
 
 abbrev Past : Type 0
 Past = List (ℕ × What)
@@ -107,7 +108,7 @@ module _ {S : Type 0} where
     entries = [];
     history = history ∙ sym (append-nil old.history);
     by = All-nil (λ (e : Entry). e.by ≡ core);
-    held = none_more s;
+    held = sum_nothing s;
   }
 
   -- whether or not it is stopped, the book is of the same loop and has the same history
