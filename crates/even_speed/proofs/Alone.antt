@@ -15,7 +15,7 @@ use Rattle.spec_history.specs.Replay.{replay_from, replay, count_of, counts_of}
 use Rattle.spec_history.proofs.CodedCores.Performed.{idle_fails}
 use Rattle.spec_history.proofs.OneEntry.Keeping.{with_core_other, with_core_same}
 use Rattle.spec_history.proofs.OneEntry.Legal.{IsLegalEntry, legal_entry, some_below}
-use Rattle.spec_history.proofs.Replay.Replays.{effect-on, effect-idle, legal_by, on_core}
+use Rattle.spec_history.proofs.Replay.Replays.{effect-on, effect-idle, legal_by, on_core, runs_so}
 use Rattle.violations.specs.View.{StoreView}
 use Rattle.homefree.specs.declared.answer.Answer.{Answer}
 use Rattle.homefree.specs.declared.answer.Answer.TheVariants.{Go, Again, Left, Over, Stopped}
@@ -27,7 +27,6 @@ use Rattle.homefree.specs.InStep.{InStep}
 use Rattle.homefree.specs.Turned.{Turn}
 use Rattle.rv32_exec.specs.declared.stop.Stop.{Stop}
 use Rattle.even_speed.specs.Kept.{NeverWaits}
-use Rattle.even_speed.proofs.Moving.{passes}
 
 -- the core runs the homefree epoch, if any, and isn't hurt; there is no other
 pub record IsAlone (s : FlatState) : Type 0 where
@@ -61,8 +60,8 @@ no_hurt image s c epoch at legal =
     let both = and_parts (runs_and (s.cores 0) (λ x. nat_lt x.epoch epoch)) _ legal.there in
     let found = some_below 1 _ both.1 in
     let here = subst (λ k. runs_and (s.cores k) (λ x. (x.epoch == epoch) && not x.straight) ≡ true) (first_below found.0 found.1) found.2 in
-    let same = and_parts (c.epoch == epoch) (not c.straight) (passes (s.cores 0) c (λ x. (x.epoch == epoch) && not x.straight) at here) in
-    earlier_and_same c epoch (ltb-true _ _ (passes (s.cores 0) c (λ x. nat_lt x.epoch epoch) at both.0)) (eqb-true _ _ same.0)
+    let same = and_parts (c.epoch == epoch) (not c.straight) (runs_so (s.cores 0) c (λ x. (x.epoch == epoch) && not x.straight) at here).passes in
+    earlier_and_same c epoch (ltb-true _ _ (runs_so (s.cores 0) c (λ x. nat_lt x.epoch epoch) at both.0).passes) (eqb-true _ _ same.0)
 
 no_cancel : (image : LoadedImage) (s : FlatState) (c : CoreState) (epoch : ℕ) → s.cores 0 ≡ Some c → IsLegalEntry image 1 s (record { by = 0; what = Cancel epoch }) → ⊥
 no_cancel image s c epoch at legal =
@@ -70,7 +69,7 @@ no_cancel image s c epoch at legal =
     let found = some_below 1 _ both.1 in
     let here = subst (λ k. by_core (s.cores k) false (λ x. x.epoch == epoch) ≡ true) (first_below found.0 found.1) found.2 in
     let same = on_core (s.cores 0) c (λ x. x.epoch == epoch) at here in
-    earlier_and_same c epoch (ltb-true _ _ (passes (s.cores 0) c (λ x. nat_lt x.epoch epoch) at both.0)) (eqb-true _ _ same)
+    earlier_and_same c epoch (ltb-true _ _ (runs_so (s.cores 0) c (λ x. nat_lt x.epoch epoch) at both.0).passes) (eqb-true _ _ same)
 
 no_restart : (s : FlatState) (by : ℕ) → IsAlone s → by_core (s.cores by) false (λ c. c.hurt) ≡ true → ⊥
 no_restart s zero a is = by_what (s.cores 0) refl

@@ -22,7 +22,7 @@ use Rattle.spec_history.proofs.OneEntry.Going.{Going, homefree_run}
 use Rattle.spec_history.proofs.Replay.Joining.{no_entry, splits}
 use Rattle.spec_history.proofs.OneEntry.Keeping.{with_core_other, with_core_same}
 use Rattle.spec_history.proofs.OneEntry.Progress.{outcome_there}
-use Rattle.spec_history.proofs.Replay.Replays.{effect-on, effect-idle, replayed}
+use Rattle.spec_history.proofs.Replay.Replays.{effect-on, effect-idle, replayed, one_legal}
 use Rattle.violations.specs.View.{StoreView, Waits}
 use Rattle.homefree.specs.declared.answer.Answer.{Answer}
 use Rattle.homefree.specs.declared.answer.Answer.TheVariants.{Go, Again, Over}
@@ -39,7 +39,7 @@ use Rattle.homefree.specs.Turned as turn
 use Rattle.even_speed.specs.Even.{restarts}
 use Rattle.even_speed.specs.InOrder.{epoch_count, executed_in}
 use Rattle.even_speed.specs.Timed.{Adds, Came, CameBy, From, GoesTo, Leads, Leaves, StaysAt, TakesEpoch}
-use Rattle.even_speed.proofs.Moving.{AreCalm, CalmThen, calm_append, calm_then, hurts_calm, last_entry, moves_same, moves_then, restarts_in}
+use Rattle.even_speed.proofs.Moving.{AreCalm, CalmThen, calm_append, calm_then, hurts_calm, moves_same, moves_then, restarts_in}
 
 -- ---- restarts
 
@@ -61,7 +61,7 @@ module _ (image : LoadedImage) (count core : ℕ) (s u : FlatState) (held : Opti
   begins : s.cores core ≡ None → replay_from image count s (entry core (what.Start s.next_epoch)) ≡ Some u
       → GoesTo image s u core held restarted (start_of image s.next_epoch)
   begins idle replays =
-      let is = last_entry image count s u _ replays in
+      let is = sym (one_legal image count s u _ replays).1 in
       let on = effect-idle image s core (what.Start s.next_epoch) idle in
       subst (λ x. GoesTo image s x core held restarted (start_of image s.next_epoch)) (sym (is ∙ on)) (record {
         now = _;
@@ -78,7 +78,7 @@ module _ (image : LoadedImage) (count core : ℕ) (s u : FlatState) (held : Opti
   begins_again : (c : CoreState) → s.cores core ≡ Some c → c.hurt ≡ true → restarted ≡ true → replay_from image count s (entry core what.Restart) ≡ Some u
       → GoesTo image s u core held restarted (start_of image c.epoch)
   begins_again c at hurt restart replays =
-      let is = last_entry image count s u _ replays in
+      let is = sym (one_legal image count s u _ replays).1 in
       let on = effect-on image s core what.Restart c at in
       subst (λ x. GoesTo image s x core held restarted (start_of image c.epoch)) (sym (is ∙ on)) (record {
         now = _;

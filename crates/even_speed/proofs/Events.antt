@@ -9,21 +9,7 @@ use Rattle.rv32_exec.specs.Execute.{Effect, Executes, Stops, hart_effect}
 use Rattle.rv32_exec.specs.NextEvent.{event_within, next_event}
 use Rattle.rv32_exec.proofs.Runs.{event_within_executes, event_within_stops}
 use Rattle.rv32_exec.proofs.Steps.{executes_counts}
-
-event_by : (image : LoadedImage) (n : ℕ) (h : HartState) (e : Effect) → hart_effect image h ≡ e
-    → ((after : HartState) → (event_within image n after).now.done ≤ after.done + n) → (event_within image (suc n) h).now.done ≤ h.done + suc n
-event_by image n h (Executes after) is later =
-    let counted = executes_counts image h after is in
-    rw (event_within_executes image n h after is) (omega (arith, counted, later after))
-event_by image n h (Stops at) is later = rw (event_within_stops image n h at is) (omega arith)
-
-first_event : (image : LoadedImage) (h : HartState) → (event_within image 0 h).now.done ≤ h.done + 0
-unfolding event_within
-first_event image h = omega arith
-
-done_within : (image : LoadedImage) (n : ℕ) (h : HartState) → (event_within image n h).now.done ≤ h.done + n
-done_within image zero h = first_event image h
-done_within image (suc n) h = event_by image n h (hart_effect image h) refl (λ after. done_within image n after)
+use Rattle.turn_costs.proofs.Events.{done_within}
 
 pub few_to_event : (image : LoadedImage) (h : HartState) → image.limit ≤ 1000000 → (next_event image h).now.done - h.done ≤ 1000001
 unfolding next_event

@@ -3,7 +3,7 @@ use Rattle.std.proofs.Common.{◌≡◌, ◌≢◌, ◌⊎◌, ℕ, ◌+◌, ◌
 use native.Mathlib.Decide.{dec_lt}
 use Rattle.std.proofs.Math.Path.{fun_ext}
 use Rattle.std.proofs.lemmas.Bool.{and_parts, cases_eq, false_from_ne_true, or_right, or_cases}
-use Rattle.std.proofs.lemmas.Cmp.{nat_cmp_total, on_total, then_total, by_ranked, ranked}
+use Rattle.std.proofs.lemmas.Cmp.{nat_cmp_total, on_total, then_total}
 use Rattle.std.proofs.lemmas.List.{get_or_default}
 use Rattle.std.proofs.lemmas.List.Elements.{All-from_get_or}
 use Rattle.std.proofs.lemmas.List.Folds.{Any-from_list_any, list_any_at, list_any_none}
@@ -13,8 +13,7 @@ use Rattle.std.specs.Cmp.{IsTotalOrder}
 use Rattle.std.specs.List.{list_any}
 use Rattle.std.specs.List.Sorted.{IsBinarySearchResult, IsNonDecreasing, IsPartitionPoint, IsPartitionedBy, IsPermutation, IsSorted}
 use Rattle.std.specs.Ordering.{is_lt, nat_cmp, ordering_then}
-use Rattle.std.specs.declared.cmp.Ordering.{Ordering}
-use Rattle.std.specs.declared.cmp.Ordering.TheVariants.{Less, Equal, Greater}
+use Rattle.memory_bytes.proofs.SmallFacts.{by_numbers}
 use Rattle.spec_history.specs.Refusal.{any_below}
 use Rattle.spec_history.proofs.OneEntry.Legal.{none_below}
 use Rattle.spec_history.proofs.Searches.Tests.{all_fail, one_passes}
@@ -70,10 +69,6 @@ found_any xs x (Err i) up found = sym (list_any_none (λ a. a == x) xs (All-from
 
 total : IsTotalOrder pair_order
 total = then_total (on_total (λ (p : ℕ × ℕ). p.0) nat_cmp_total) (on_total (λ (p : ℕ × ℕ). p.1) nat_cmp_total)
-
-by_numbers : (a b : ℕ) (P : Ordering → Type 0) → (a < b → P Less) → (a ≡ b → P Equal) → (b < a → P Greater) → P (nat_cmp a b)
-by_numbers a b P l q g =
-    by_ranked (a < b) (a ≡ b) (b < a) (nat_cmp a b) (ranked a b (nat_cmp a b) refl) (λ is less. subst P (sym is) (l less)) (λ is same. subst P (sym is) (q same)) (λ is more. subst P (sym is) (g more))
 
 -- not after another
 abbrev IsUpTo : ℕ × ℕ → ℕ × ℕ → Type 0

@@ -1,5 +1,5 @@
 -- What the entries of a turn make of the cores.
-use Rattle.std.proofs.Common.{◌≡◌, ◌≢◌, ℕ, zero, suc, ◌<◌, ◌==◌, ◌||◌, not, nat_lt, Bool, true, false, cond, List, [], ◌∷◌, ◌++◌, Option, Some, None, refl, sym, ap, subst, ◌∙◌, arith, ltb-true, ne_eqb}
+use Rattle.std.proofs.Common.{◌≡◌, ◌≢◌, ℕ, zero, suc, ◌<◌, ◌==◌, ◌||◌, nat_lt, Bool, true, false, cond, List, [], ◌∷◌, ◌++◌, Option, Some, None, refl, sym, ap, subst, ◌∙◌, arith, ltb-true, ne_eqb}
 use Rattle.std.proofs.lemmas.Bool.{and_parts, or_parts}
 use Rattle.std.proofs.lemmas.Option.{same_Some, none-some}
 use Rattle.rv32_image.specs.Image.{LoadedImage}
@@ -12,7 +12,7 @@ use Rattle.spec_history.specs.Refusal.{refusal_of, runs_and}
 use Rattle.spec_history.specs.Replay.{count_of, counts_of, replay_from}
 use Rattle.spec_history.proofs.OneEntry.Keeping.{with_core_other, with_core_same}
 use Rattle.spec_history.proofs.OneEntry.Legal.{IsLegalEntry, legal_entry}
-use Rattle.spec_history.proofs.Replay.Replays.{effect-on, legal_by}
+use Rattle.spec_history.proofs.Replay.Replays.{effect-on, legal_by, runs_so}
 use Rattle.homefree.specs.Hurts.{entry, entry_for_each}
 use Rattle.even_speed.specs.Timed.{Moves}
 
@@ -104,9 +104,6 @@ pub record Stays (c : CoreState) (o : Option CoreState) : Type 0 where
   pub epoch : core.epoch ≡ c.epoch
   pub unhurt : core.hurt ≡ false
 
-pub passes : (core : Option CoreState) (c : CoreState) (test : CoreState → Bool) → core ≡ Some c → runs_and core test ≡ true → test c ≡ true
-passes core c test at is = (and_parts (not c.hurt) (test c) (sym (ap (λ o. runs_and o test) at) ∙ is)).1
-
 earlier : (a b : ℕ) → a < b → a ≢ b
 earlier a b less is = omega (arith, less, is)
 
@@ -126,7 +123,7 @@ own_on image count s by c (Load address width value) calm at unhurt legal = absu
 own_on image count s by c (Store address width value) calm at unhurt legal = absurd calm
 own_on image count s by c (Hurt epoch) calm at unhurt legal =
     hurt_own epoch (s.cores by) c at unhurt
-    (ltb-true _ _ (passes (s.cores by) c (λ x. nat_lt x.epoch epoch) at (and_parts (runs_and (s.cores by) (λ x. nat_lt x.epoch epoch)) _ legal.there).0))
+    (ltb-true _ _ (runs_so (s.cores by) c (λ x. nat_lt x.epoch epoch) at (and_parts (runs_and (s.cores by) (λ x. nat_lt x.epoch epoch)) _ legal.there).0).passes)
 own_on image count s by c (Cancel epoch) calm at unhurt legal = absurd calm
 own_on image count s by c Restart calm at unhurt legal = absurd calm
 own_on image count s by c Publish calm at unhurt legal =
@@ -205,11 +202,6 @@ pub record CalmThen (image : LoadedImage) (count : ℕ) (s u : FlatState) (by : 
   pub calmed : Calmed s between by c
   pub legal : IsLegalEntry image count between last
   pub is : u ≡ effect image between last
-
-pub last_entry : (image : LoadedImage) (count : ℕ) (s u : FlatState) (last : Entry) → replay_from image count s (last ∷ []) ≡ Some u → u ≡ effect image s last
-unfolding replay_from
-last_entry image count s u last replays =
-    legal_by image count s last [] u (refusal_of image count s last) refl replays (λ legal rest. sym (same_Some _ u rest))
 
 one_last : (image : LoadedImage) (count : ℕ) (s u : FlatState) (by : ℕ) (c : CoreState) (last : Entry) → s.cores by ≡ Some c → c.hurt ≡ false
     → replay_from image count s (last ∷ []) ≡ Some u → CalmThen image count s u by c last

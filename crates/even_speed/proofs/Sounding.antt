@@ -203,7 +203,8 @@ needed_least : (needs : Bool) (free at : ℕ) → at ≤ if_needed needs free at
 needed_least true free at = (later_least free at).1
 needed_least false free at = omega arith
 
-needed_bound : (needs : Bool) (free at bound : ℕ) → free ≤ bound → at ≤ bound → if_needed needs free at ≤ bound
+-- nor is what one of them needs past a bound that neither is
+pub needed_bound : (needs : Bool) (free at bound : ℕ) → free ≤ bound → at ≤ bound → if_needed needs free at ≤ bound
 needed_bound true free at bound one two = later_bound free at bound one two
 needed_bound false free at bound one two = two
 

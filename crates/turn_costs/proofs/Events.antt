@@ -18,7 +18,8 @@ first_event : (image : LoadedImage) (h : HartState) → (event_within image 0 h)
 unfolding event_within
 first_event image h = omega arith
 
-done_within : (image : LoadedImage) (n : ℕ) (h : HartState) → (event_within image n h).now.done ≤ h.done + n
+-- to an event within so many instructions no more are executed
+pub done_within : (image : LoadedImage) (n : ℕ) (h : HartState) → (event_within image n h).now.done ≤ h.done + n
 done_within image zero h = first_event image h
 done_within image (suc n) h = event_by image n h (hart_effect image h) refl (λ after. done_within image n after)
 
