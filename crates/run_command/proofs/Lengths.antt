@@ -9,7 +9,6 @@ use Rattle.std.specs.List.{flat_map}
 use Rattle.rv32_image.specs.declared.fault.ImageFault.{ImageFault}
 use Rattle.rv32_image.specs.Image.{LoadedImage}
 use Rattle.rv32_image.specs.ImageText.{image_text, longest_image_text}
-use Rattle.rv32_image.proofs.Printed.{word_in-hex}
 use Rattle.spec_history.specs.declared.entry.Entry.{Entry}
 use Rattle.spec_history.specs.declared.entry.What.{What}
 use Rattle.spec_history.specs.declared.entry.What.TheVariants.{Start, Load, Store, Hurt, Cancel, Restart, Publish, Commit, Fault}
@@ -23,8 +22,9 @@ use Rattle.spec_history.proofs.OneEntry.Legal.{legal_entry, next_in_memory}
 use Rattle.spec_history.proofs.Replay.Replays.{effect-idle, effect-on, legal_by, not_running}
 use Rattle.trace_text.specs.Laws.{AreEntries, IsWhat}
 use Rattle.trace_text.specs.Printing.{access_text, entry_line, head_line, hex_word, printed_trace, what_text}
-use Rattle.trace_text.specs.TraceText.{digits, longest_trace_text}
+use Rattle.trace_text.specs.TraceText.{longest_trace_text}
 use Rattle.trace_text.proofs.EightDigits.{eight_long}
+use Rattle.trace_text.proofs.ReadsBack.{digits-hex}
 
 -- ---- the cores of entries are there
 
@@ -103,12 +103,8 @@ digit_long width is = let small = one_digit width is in length-decimal-le 1 widt
 number_long : (n : ℕ) → n < 2 ^ 32 → length (decimal n) ≤ 10
 number_long n small = length-decimal-le 10 n (omega arith) (omega arith) (omega arith)
 
-hex_read : (n : ℕ) → n < 2 ^ 32 → digits (hex_word n) ≡ Some n
-unfolding digits
-hex_read n small = rw (word_in-hex n small) refl
-
 hex_long : (n : ℕ) → n < 2 ^ 32 → length (hex_word n) ≡ 8
-hex_long n small = eight_long (hex_word n) n (hex_read n small)
+hex_long n small = eight_long (hex_word n) n (digits-hex n small)
 
 access_long : (address width value : ℕ) → address < 2 ^ 32 → value < 2 ^ 32 → IsWide width → length (access_text address width value) ≤ 19
 access_long address width value low small is =

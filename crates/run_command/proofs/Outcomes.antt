@@ -1,10 +1,11 @@
 -- What the command comes to, from what running its image came to.
-use Rattle.std.proofs.Common.{◌≡◌, ℕ, Bool, true, false, List, Option, Some, None, Result, Ok, Err, MatchResult, inl, inr, refl, sym, subst}
+use Rattle.std.proofs.Common.{◌≡◌, ℕ, Bool, true, false, List, Option, Some, None, Result, Ok, Err, MatchResult, inl, inr, refl}
 use Rattle.std.specs.Io.KnownBytes.{Keeps}
 use Rattle.rv32_image.specs.declared.fault.ImageFault.{ImageFault}
 use Rattle.rv32_image.specs.Image.{LoadedImage}
 use Rattle.rv32_image.specs.ImageText.{image_text}
 use Rattle.rv32_image.specs.Reading.{ForText}
+use Rattle.rv32_image.proofs.Inputs.{by_image}
 use Rattle.spec_history.specs.declared.entry.Entry.{Entry}
 use Rattle.trace_commands.specs.declared.outcome.Outcome.{Outcome}
 use Rattle.trace_commands.specs.declared.outcome.Outcome.TheVariants.{Reported, Usage, BadImage, Stopped}
@@ -20,13 +21,10 @@ use Rattle.run_command.specs.Threads.{IsMachineOutcome, IsThreadsOutcome}
 
 module _ (IsRight : LoadedImage → Outcome → Type 0) (text : List ℕ) (image : LoadedImage) (old new : Option (List ℕ)) (said : image_text text ≡ Ok image)
     (no_image_fault : (fault : ImageFault) → IsRight image (BadImage fault) → ⊥) (keeps : IsRight image (Stopped NoMemory) → Keeps old new) where
-  by_image : (outcome : Outcome) → IsRight image outcome → MatchResult (image_text text) (λ i. IsRight i outcome) (λ fault. ⊥)
-  by_image outcome is = subst (λ (r : Result LoadedImage ImageFault). MatchResult r (λ i. IsRight i outcome) (λ fault. ⊥)) (sym said) is
-
   pub of_image : (outcome : Outcome) → IsRight image outcome → IsOutcomeOf IsRight text old new outcome
   of_image (BadImage fault) is = absurd (no_image_fault fault is)
   of_image (Stopped NoMemory) is = keeps is
-  of_image outcome is = by_image outcome is
+  of_image outcome is = by_image text image (λ i. IsRight i outcome) said is
 
 -- what is right of each image for one reason is for another
 mapped : (P Q : LoadedImage → Type 0) → ((image : LoadedImage) → P image → Q image) → (said : Result LoadedImage ImageFault)
