@@ -1,6 +1,5 @@
 -- What was shown before a turn, after it.
-use Rattle.std.proofs.Common.{◌≡◌, ℕ, ◌==◌, true, List, Option, Result, option_map, if◌then◌else◌, sym, ap, ◌∙◌, arith}
-use Rattle.std.proofs.lemmas.Bool.Decides.{nat_tests}
+use Rattle.std.proofs.Common.{◌≡◌, ℕ, List, Option, Result, option_map, sym, ap, ◌∙◌}
 use Rattle.rv32_exec.specs.Hart.{HartState}
 use Rattle.run_ledger.specs.declared.counts.Counts.{Counts}
 use Rattle.violations.specs.View.{Shape, StoreView, Waits}
@@ -9,7 +8,7 @@ use Rattle.violations.specs.Rule.{shape_of}
 use Rattle.homefree.specs.declared.answer.Answer.{Answer}
 use Rattle.homefree.specs.declared.fault.TurnFault.{TurnFault}
 use Rattle.homefree.specs.BookView.{BookView}
-use Rattle.homefree.specs.Driven.{TurnedWith, arrival_of, driver, with_held}
+use Rattle.homefree.specs.Driven.{TurnedWith, arrival_of, driver}
 use Rattle.homefree.proofs.Books.Drives.{turned_at}
 use Rattle.homefree.specs.Grown.{GrowsBy}
 use Rattle.homefree.specs.InStep.{InStep}
@@ -38,9 +37,3 @@ module _ {S H : Type 0} (view : S → StoreView) (waits : S → Waits) (fits : H
   -- it is on as many cores
   pub core_count : (cores : ℕ) → old.cores ≡ cores → (view new.store).shape.cores ≡ cores
   core_count cores is = ap (λ (s : Shape). s.cores) after.shape ∙ (grows.cores ∙ is)
-
--- the hart that the core has in hand
-pub held_here : (harts : ℕ → Option HartState) (core : ℕ) (hart : Option HartState) → with_held harts core hart core ≡ hart
-held_here harts core hart =
-    let same : (core == core) ≡ true = grind (arith, nat_tests) in
-    ap (λ b. if b then hart else harts core) same

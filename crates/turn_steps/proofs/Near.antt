@@ -1,13 +1,14 @@
 -- Bytes of one line lie near one another, also those that lie apart.
-use Rattle.std.proofs.Common.{◌≡◌, ℕ, ◌+◌, ◌-◌, ◌*◌, ◌/◌, ◌%◌, ◌<◌, ◌≤◌, ◌&&◌, nat_le, nat_lt, Bool, true, false, ◌⊎◌, inl, inr, Option, Some, None, refl, sym, ap, subst, ◌∙◌, arith}
+use Rattle.std.proofs.Common.{◌≡◌, ℕ, ◌+◌, ◌-◌, ◌*◌, ◌/◌, ◌%◌, ◌<◌, ◌≤◌, ◌&&◌, nat_le, nat_lt, Bool, true, false, inl, inr, Option, Some, None, refl, sym, ap, subst, ◌∙◌, arith}
 use Rattle.std.proofs.Math.Nat.{mod-lt}
 use Rattle.std.proofs.lemmas.Bool.Decides.{nat_tests}
 use Rattle.std.proofs.lemmas.Nat.{div-add-mod'}
+use Rattle.memory_bytes.proofs.SmallFacts.{none_or_some}
 use Rattle.rv32_image.specs.declared.apart.Apart.{Apart}
 use Rattle.rv32_image.specs.declared.machine.Machine.{Machine}
 use Rattle.rv32_image.specs.Machine.{IsMachineFor, is_line_length}
 use Rattle.rv32_image.specs.Places.{FitsApart, behind, lies_apart, place, place_by, place_with}
-use Rattle.rv32_image.proofs.Bounds.{by_length, number_below, number_up}
+use Rattle.rv32_image.proofs.Bounds.{by_length, number_below, number_up, behind_line}
 use Rattle.rv32_image.proofs.Places.{place-none, place-stays, place-inside, place-past, places-whole}
 use Rattle.turn_steps.specs.Caches.{LiesIn, first_row}
 
@@ -19,10 +20,6 @@ close n a b is = by_length (λ n. a / n ≡ b / n → a < b + 64) n is (λ same.
 close_past : (n a b k : ℕ) → is_line_length n ≡ true → (a + k * n) / n ≡ (b + k * n) / n → a < b + 64
 close_past n a b k is =
     by_length (λ n. (a + k * n) / n ≡ (b + k * n) / n → a < b + 64) n is (λ same. omega arith) (λ same. omega arith) (λ same. omega arith)
-
-behind_line : (n size q r : ℕ) → is_line_length n ≡ true → size % n ≡ 0 → r < n → (size + (q * n + r)) / n ≡ size / n + q
-behind_line n size q r is =
-    by_length (λ n. size % n ≡ 0 → r < n → (size + (q * n + r)) / n ≡ size / n + q) n is (λ w b. omega arith) (λ w b. omega arith) (λ w b. omega arith)
 
 -- a line has at most 64 bytes
 pub short : (n : ℕ) → is_line_length n ≡ true → n ≤ 64
@@ -59,10 +56,6 @@ close_pieces apart n size a b fits is whole first_a first_b same =
     let all_x = div-add-mod' x apart.piece in
     let all_y = div-add-mod' y apart.piece in
     omega (arith, piece, all_x, all_y, rest_x, fits.short_piece, short n is)
-
-some_or_none : (o : Option Apart) → (o ≡ None) ⊎ ((x : Apart) × (o ≡ Some x))
-some_or_none None = inl refl
-some_or_none (Some x) = inr (x, refl)
 
 module _ (machine : Machine) (size : ℕ) (fits : IsMachineFor size machine) where
   abbrev n : ℕ
@@ -117,7 +110,7 @@ module _ (machine : Machine) (size : ℕ) (fits : IsMachineFor size machine) whe
   -- bytes of one line are less than 64 apart
   pub near : (a b : ℕ) → at a / n ≡ at b / n → a < b + 64
   near a b same =
-      elim (some_or_none machine.apart) [
+      elim (none_or_some machine.apart) [
         | inl none ↦
             close n a b fits.is.line_length
             (sym (ap (λ p. p / n) (place-none machine size a none)) ∙ (same ∙ ap (λ p. p / n) (place-none machine size b none)))
@@ -169,7 +162,7 @@ module _ (machine : Machine) (size line : ℕ) (fits : IsMachineFor size machine
       → (first_row machine.apart size machine.line_length line ≤ a / 16) × (a / 16 ≤ first_row machine.apart size machine.line_length line + 4)
   unfolding InRows
   in_first_rows a lt lies =
-      elim (some_or_none machine.apart) [
+      elim (none_or_some machine.apart) [
         | inl none ↦ subst (λ (o : Option Apart). InRows (first_row o size machine.line_length line) a) (sym none) (of_none none a lies)
         | inr x ↦ subst (λ (o : Option Apart). InRows (first_row o size machine.line_length line) a) (sym x.1) (of_some x.0 x.1 a lt lies (lies_apart x.0 a) refl)
       ]

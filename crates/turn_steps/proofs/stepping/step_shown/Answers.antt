@@ -1,9 +1,10 @@
 use Rattle.std.proofs.Common.{◌≡◌, ◌++◌, Ok, ap, refl, ◌∙◌}
 use Rattle.homefree.specs.Driven.{held_after}
 use Rattle.homefree.specs.Held.{harts_of}
+use Rattle.homefree.proofs.SmallFacts.{held_here}
 use Rattle.turn_steps.specs.Stepped.{turn_text}
 use Rattle.turn_steps.specs.Telling.{IsBefore}
-use Rattle.turn_steps.proofs.Followed.{follows, held_here}
+use Rattle.turn_steps.proofs.Followed.{follows}
 use Rattle.turn_steps.proofs.stepping.step_shown.Goals as goal
 
 pub returns-in-Ok-clause-told : goal.returns-in-Ok-clause-told
