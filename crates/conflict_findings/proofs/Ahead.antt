@@ -6,11 +6,10 @@ use Rattle.std.proofs.Math.ListN.{get_or-eq_default}
 use Rattle.spec_history.specs.declared.entry.Entry.{Entry}
 use Rattle.spec_history.specs.Conflict.{entry_is}
 use Rattle.spec_history.specs.Searches.{first_below}
-use Rattle.spec_history.proofs.Searches.Tests.{first_at, first_none}
+use Rattle.spec_history.proofs.Searches.Tests.{first_at, first_none, none_first, first_found}
 use Rattle.conflicts.specs.declared.explanation.Explanation.{Explanation}
 use Rattle.conflicts.specs.declared.explanation.Runner.{Runner}
 use Rattle.conflicts.specs.Fates.{first_after, is_over, over_at}
-use Rattle.conflicts.proofs.Finding.{none_first, first_found}
 use Rattle.conflict_findings.specs.declared.known_ends.KnownEnd.{KnownEnd}
 use Rattle.conflict_findings.specs.KnownEnds.{IsKnownEnd}
 

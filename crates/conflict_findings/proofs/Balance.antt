@@ -16,14 +16,13 @@ use Rattle.spec_history.specs.declared.entry.What.TheVariants.{Start, Load, Stor
 use Rattle.spec_history.specs.FlatState.{CoreState, FlatState, begun, end_after, first_state}
 use Rattle.spec_history.specs.Effect.{by_core, effect, hurt_at, idle_at, with_core}
 use Rattle.spec_history.specs.Laws.{IsKept}
-use Rattle.spec_history.specs.Refusal.{any_below, can_be_hurt, has, is_at, refusal_of, runs_and}
-use Rattle.spec_history.specs.Replay.{replay, replay_from, where_legal}
-use Rattle.spec_history.specs.declared.illegal.Illegal.{Illegal}
+use Rattle.spec_history.specs.Refusal.{any_below, can_be_hurt, has, is_at, runs_and}
+use Rattle.spec_history.specs.Replay.{replay}
 use Rattle.spec_history.proofs.Replay.Joining.{splits}
 use Rattle.spec_history.proofs.OneEntry.Keeping.{with_core_other, with_core_same}
 use Rattle.spec_history.proofs.OneEntry.Legal.{IsLegalEntry, legal_entry, some_below}
 use Rattle.spec_history.proofs.Replay.Reaching.{no_entries}
-use Rattle.spec_history.proofs.Replay.Replays.{effect-idle, effect-on, not_running, replayed}
+use Rattle.spec_history.proofs.Replay.Replays.{effect-idle, effect-on, not_running, replayed, one_legal}
 use Rattle.conflicts.specs.declared.explanation.Runner.{Runner}
 use Rattle.conflicts.specs.Attempts.{attempt_number, is_begin}
 use Rattle.conflict_findings.specs.declared.ended.Ended.{Ended}
@@ -329,14 +328,6 @@ begun_more [] x = sum_by-cons (λ (e : Entry). cond (is_begin e.what) 1 0) x [] 
 begun_more (y ∷ ys) x =
     omega (arith, sum_by-cons (λ (e : Entry). cond (is_begin e.what) 1 0) y (ys ++ x ∷ []), sum_by-cons (λ (e : Entry). cond (is_begin e.what) 1 0) y ys, begun_more ys x)
 
-after_one : (refusal : Option Illegal) (t s : FlatState) → where_legal refusal (Some t) ≡ Some s → s ≡ t
-after_one None t s is = cc
-after_one (Some r) t s is = absurd cc
-
-last_is : (image : LoadedImage) (count : ℕ) (t s : FlatState) (entry : Entry) → replay_from image count t (entry ∷ []) ≡ Some s → s ≡ effect image t entry
-unfolding replay_from
-last_is image count t s entry is = after_one (refusal_of image count t entry) (effect image t entry) s is
-
 entry_at : (xs : List Entry) (n : ℕ) → n < length xs → (x : Entry) × (slice_get xs n ≡ Some x) × (take (suc n) xs ≡ take n xs ++ x ∷ [])
 entry_at [] n below = absurd (omega (arith, below))
 entry_at (x ∷ xs) zero below = (x, refl, refl)
@@ -362,7 +353,7 @@ balanced image count entries (suc n) s is within replays =
     let t = parts.between in
     let legal = legal_entry image count t x.0 (first_legal image count t s x.0 [] parts.later_replays) in
     let kept = ((replayed image count (take n entries) t is parts.first_replays).going legal.going).kept in
-    let after : going_on image count entries s ≡ going_on image count entries (effect image t x.0) = ap (going_on image count entries) (last_is image count t s x.0 parts.later_replays) in
+    let after : going_on image count entries s ≡ going_on image count entries (effect image t x.0) = ap (going_on image count entries) (sym (one_legal image count t s x.0 parts.later_replays).1) in
     let ended : length (ended_before image count entries (suc n)) ≡ length (ended_before image count entries n) + ended_count image count entries t n x.0.by x.0.what =
     ap length (one_ended image count entries n)
     ∙ (length-append (ended_before image count entries n) (option_to_list (ended_at image count entries n))
