@@ -7,6 +7,7 @@ use Rattle.rv32_image.proofs.SmallFacts.{one_value}
 use Rattle.memory_bytes.specs.Bytes.{number_at}
 use Rattle.memory_bytes.specs.Maps.{joined, over, read_outside, stored}
 use Rattle.memory_bytes.proofs.Bytes.{number_at_same, over-joined}
+use Rattle.memory_bytes.proofs.SmallFacts.{seen_by}
 use Rattle.rv32_exec.specs.declared.stop.Stop.TheVariants as stop
 use Rattle.rv32_exec.specs.Hart.{stepped}
 use Rattle.rv32_exec.specs.NextEvent.{next_event}
@@ -17,11 +18,11 @@ use Rattle.spec_history.specs.Effect.{with_core, effect_on}
 use Rattle.spec_history.specs.Laws.{IsKept}
 use Rattle.spec_history.proofs.OneEntry.Keeping.{with_core_same, with_core_other}
 use Rattle.spec_history.proofs.OneEntry.Going.{others_speculate}
+use Rattle.spec_history.proofs.OneEntry.Entries.{store_as}
 use Rattle.dependences.specs.Conflict.{Conflict, PathReads, memory_before, path_memory}
 use Rattle.dependences.proofs.Paths.{IsAt, either, past_load, past_store, path_stores, reads_there}
 use Rattle.dependences.proofs.Windows.{IsInWindow}
 use Rattle.dependences.proofs.Starting.{IsOrderly, OnPath, beside, core_reached, cores_with, unwritten, whatever_shown}
-use Rattle.dependences.proofs.SmallFacts.{seen_by}
 
 -- ---- straight cores
 
@@ -160,23 +161,6 @@ load_orderly image cores s by c kept window orderly free at address width signed
     }
 
 -- ---- stores
-
-store_as : (image : LoadedImage) (s : FlatState) (by : ℕ) (c : CoreState) (address width value : ℕ) (b : Bool) → c.straight ≡ b
-    → effect_on image s by c (Store address width value) ≡ record s {
-      committed = cond b (over (stored address width value) s.committed) s.committed;
-      published = cond b (stepped (next_event image c.hart).now).done s.published;
-      cores = with_core s.cores by (Some (record c {
-        hart = stepped (next_event image c.hart).now;
-        own = cond b c.own (joined (stored address width value) c.own);
-      }));
-    }
-store_as image s by c address width value b is =
-    let hart = stepped (next_event image c.hart).now in
-    ap (λ (x : Bool). let t : FlatState = record s {
-      committed = cond x (over (stored address width value) s.committed) s.committed;
-      published = cond x hart.done s.published;
-      cores = with_core s.cores by (Some (record c { hart = hart; own = cond x c.own (joined (stored address width value) c.own) }));
-    } in t) is
 
 store_speculating : (image : LoadedImage) (cores : ℕ) (s : FlatState) (by : ℕ) (c : CoreState) → IsOrderly image cores s → s.cores by ≡ Some c
     → (address width value : ℕ) → (next_event image c.hart).at ≡ stop.Store address width value → c.straight ≡ false

@@ -6,6 +6,7 @@ use Rattle.rv32_exec.specs.declared.stop.Stop.TheVariants as stop
 use Rattle.memory_bytes.specs.Bytes.{number_at, with_number}
 use Rattle.memory_bytes.specs.Maps.{joined, nothing, over, stored}
 use Rattle.memory_bytes.proofs.Bytes.{number_at_same, over-joined, stored_within}
+use Rattle.memory_bytes.proofs.SmallFacts.{seen_by}
 use Rattle.rv32_image.specs.Image.{LoadedImage}
 use Rattle.rv32_exec.specs.Hart.{HartState, start_of, stepped}
 use Rattle.rv32_exec.specs.Execute.{Effect, Executes, Stops, IsStore, after_load, hart_effect}
@@ -16,17 +17,12 @@ use Rattle.rv32_exec.proofs.LawsOfRuns.{after_steps-+, one_step}
 use Rattle.spec_history.specs.Laws.{Holds}
 use Rattle.spec_history.proofs.OneEntry.Keeping.{start_runs}
 use Rattle.spec_history.proofs.OneEntry.Accesses.{holds_stored}
+use Rattle.spec_history.proofs.OneEntry.Progress.{none_left}
 use Rattle.dependences.specs.Paths.{ReadsOutside, Stores, StoresAt}
 use Rattle.dependences.proofs.Paths.{covered, either, neither, same_store}
-use Rattle.dependences.proofs.SmallFacts.{no_store_at_load, seen_by}
+use Rattle.dependences.proofs.SmallFacts.{no_store_at_load}
 
 -- ---- one instruction
-
-none_left : (image : LoadedImage) (p : Progress) → go_on p (after_steps image 0) ≡ p
-unfolding after_steps
-none_left image (Runs h memory) = refl
-none_left image (Ends h memory) = refl
-none_left image (Faults cause pc memory) = refl
 
 -- one instruction more
 one_more : (image : LoadedImage) (n : ℕ) (from : HartState) (memory : List ℕ) (p : Progress) → after_steps image n from memory ≡ p

@@ -7,6 +7,7 @@ use Rattle.std.proofs.Math.Nat.{div-le_self}
 use Rattle.memory_bytes.specs.Bytes.{IsWidth, number_at, with_number}
 use Rattle.memory_bytes.specs.Maps.{first_of, joined, nothing, stored}
 use Rattle.memory_bytes.proofs.Bytes.{stored_within}
+use Rattle.memory_bytes.proofs.SmallFacts.{starts_inside}
 use Rattle.rv32_image.specs.Image.{LoadedImage, IsImage}
 use Rattle.rv32_image.specs.Places.{place}
 use Rattle.rv32_image.proofs.Places.{places-few}
@@ -33,7 +34,7 @@ use Rattle.dependences.proofs.InOrder.{all_in_order}
 use Rattle.dependences.proofs.Following.{all_loaded, all_stored, all_stored_early, hart_there, load_late, no_both, same_load, store_late}
 use Rattle.dependences.proofs.Outside.{seen_now}
 use Rattle.dependences.proofs.Lining.{among, last_low}
-use Rattle.dependences.proofs.Words.{marked_word, some_wide}
+use Rattle.dependences.proofs.Words.{marked_word}
 use Rattle.dependences.proofs.Counting.{count_past, falling_few}
 use Rattle.dependences.proofs.Sharing.{count_few, shares_so, shares_stored, shares_touched, store_again, store_counts_long, store_here, store_long, store_others, store_two, touch_again, touch_before_long, touch_counts_long, touch_last, touch_last_long, touch_others, touch_stored}
 use Rattle.dependences.proofs.SmallFacts.{either_some}
@@ -324,7 +325,7 @@ module _ (image : LoadedImage) (cores epoch : ℕ) (memory now : List ℕ) (t : 
     limit = image.machine.buffer_lines
 
     pub below : address < image.size
-    below = let some = some_wide width wide in omega (arith, some, room)
+    below = starts_inside address width image.size wide room
 
     abbrev touched_now : Touched
     touched_now = after_touch t limit cores epoch (line_number image address)

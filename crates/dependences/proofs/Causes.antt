@@ -1,6 +1,5 @@
 -- The cause of a violation: what its core did next, in a state that differs in who is violated and cancelled alone.
 use Rattle.std.proofs.Common.{◌≡◌, ℕ, zero, suc, ◌+◌, ◌-◌, ◌<◌, ◌≤◌, ◌==◌, ◌&&◌, not, nat_lt, Bool, true, false, cond, List, length, slice_get, take, Option, Some, None, option_and_then, option_map, refl, sym, ap, subst, ◌∙◌, inl, inr, arith, eqb-true, ltb-true}
-use Rattle.std.specs.Option.{option_or}
 use Rattle.std.proofs.lemmas.Bool.{and_parts, cases_eq, not-false}
 use Rattle.std.proofs.lemmas.Bool.Decides.{nat_tests}
 use Rattle.rv32_image.specs.Image.{LoadedImage}
@@ -12,51 +11,15 @@ use Rattle.spec_history.specs.FlatState.{CoreState, FlatState}
 use Rattle.spec_history.specs.Effect.{effect, effect_on, effect_idle, hurt_at}
 use Rattle.spec_history.specs.Refusal.{refusal_of}
 use Rattle.spec_history.specs.Replay.{replay}
-use Rattle.spec_history.specs.Searches.{first_below}
 use Rattle.spec_history.specs.Conflict.{can_cause, cause_of, entry_is, is_notice, next_act, passes, what_at}
 use Rattle.rv32_exec.specs.Hart.{HartState}
 use Rattle.spec_history.proofs.OneEntry.Entries.{still_runs}
 use Rattle.spec_history.proofs.OneEntry.Legal.{and_false}
 use Rattle.spec_history.proofs.Replay.Replays.{effect-on, effect-idle}
+use Rattle.spec_history.proofs.Searches.Tests.{first_found}
 use Rattle.dependences.proofs.Histories.{entry_at, next_entry, prefix, there_below}
 
 -- ---- a search from the front
-
-or_none : (o : Option ℕ) (n : ℕ) (b : Bool) → option_or o (cond b (Some n) None) ≡ None → (o ≡ None) × (b ≡ false)
-or_none None n true is = absurd cc
-or_none None n false is = (refl, refl)
-or_none (Some k) n b is = absurd cc
-
-nothing_found : (n : ℕ) (test : ℕ → Bool) → first_below n test ≡ None → (k : ℕ) → k < n → test k ≡ false
-unfolding first_below
-nothing_found zero test none k below = absurd (omega (arith, below))
-nothing_found (suc n) test none k below =
-    let parts = or_none (first_below n test) n (test n) none in
-    elim (cases_eq k n) [
-      | inl e ↦ ap test e ∙ parts.1
-      | inr other ↦ nothing_found n test parts.0 k (omega (arith, below, other))
-    ]
-
-record IsFirst (n : ℕ) (test : ℕ → Bool) (j : ℕ) : Type 0 where
-  pub within : j < n
-  pub passes : test j ≡ true
-  pub first : (k : ℕ) → k < j → test k ≡ false
-
-found_by : (n : ℕ) (test : ℕ → Bool) (j : ℕ) (o : Option ℕ) (b : Bool) → first_below n test ≡ o → test n ≡ b → option_or o (cond b (Some n) None) ≡ Some j
-    → (first_below n test ≡ Some j → IsFirst n test j) → IsFirst (suc n) test j
-found_by n test j (Some k) b front last is later =
-    let same : k ≡ j = cc in
-    let first = later (front ∙ ap Some same) in
-    record { within = omega (arith, first.within); passes = first.passes; first = first.first }
-found_by n test j None true front last is later =
-    let same : n ≡ j = cc in
-    record { within = omega (arith, same); passes = ap test (sym same) ∙ last; first = λ k below. nothing_found n test front k (omega (arith, below, same)) }
-found_by n test j None false front last is later = absurd cc
-
-first_found : (n : ℕ) (test : ℕ → Bool) (j : ℕ) → first_below n test ≡ Some j → IsFirst n test j
-unfolding first_below
-first_found zero test j is = absurd cc
-first_found (suc n) test j is = found_by n test j (first_below n test) (test n) refl refl is (λ front. first_found n test j front)
 
 -- ---- the entry that is the cause
 

@@ -1,15 +1,15 @@
 -- What a legal publishing, commit or cancellation keeps.
-use Rattle.std.proofs.Common.{◌≡◌, ◌≢◌, ◌⊎◌, ℕ, ◌+◌, ◌<◌, ◌≤◌, true, false, cond, slice_index, Option, Some, None, unwrap_or, refl, sym, ap, subst, ◌∙◌, inl, inr, true≢false, arith, ne_eqb}
+use Rattle.std.proofs.Common.{◌≡◌, ◌≢◌, ◌⊎◌, ℕ, ◌+◌, ◌<◌, ◌≤◌, true, false, slice_index, Option, Some, None, unwrap_or, refl, sym, ap, subst, ◌∙◌, inl, inr, true≢false, arith}
 use Rattle.std.proofs.lemmas.Bool.{cases_Bool, cases_eq}
 use Rattle.std.proofs.lemmas.Option.{none-some}
 use Rattle.rv32_image.specs.Image.{LoadedImage}
 use Rattle.memory_bytes.specs.Maps.{nothing, over}
 use Rattle.spec_history.specs.declared.entry.What.TheVariants.{Cancel, Publish, Commit}
 use Rattle.spec_history.specs.FlatState.{CoreState, FlatState}
-use Rattle.spec_history.specs.Effect.{effect_on, idle_at}
+use Rattle.spec_history.specs.Effect.{effect_on}
 use Rattle.spec_history.specs.Laws.{IsKept}
 use Rattle.spec_history.proofs.OneEntry.Keeping.{at_core, with_core_same}
-use Rattle.spec_history.proofs.OneEntry.Entries.{still_runs}
+use Rattle.spec_history.proofs.OneEntry.Entries.{still_runs, runs_on}
 use Rattle.spec_history.proofs.OneEntry.Going.{Going}
 use Rattle.dependences.specs.Conflict.{IsInOrder, PathStores, memory_before}
 use Rattle.dependences.proofs.Paths.{path_stores}
@@ -105,9 +105,6 @@ commit_orderly image cores s by c kept orderly at homefree going =
     }
 
 -- ---- cancellations
-
-runs_on : (epoch : ℕ) (core : Option CoreState) (d : CoreState) → core ≡ Some d → d.epoch ≢ epoch → idle_at epoch core ≡ Some d
-runs_on epoch core d is other = ap (idle_at epoch) is ∙ ap (λ b. cond b None (Some d)) (ne_eqb d.epoch epoch other)
 
 pub cancel_orderly : (image : LoadedImage) (cores : ℕ) (s : FlatState) (by : ℕ) (c : CoreState) (epoch : ℕ) → IsKept image cores s → IsOrderly image cores s → s.homefree < epoch
     → IsOrderly image cores (effect_on image s by c (Cancel epoch))

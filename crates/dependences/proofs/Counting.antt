@@ -1,7 +1,8 @@
 -- Counts of numbers that pass a test.
 use Rattle.std.proofs.Common.{◌≡◌, ℕ, zero, suc, ◌≤◌, Bool, true, false, List, [], ◌∷◌, All, length, refl, inl, inr, arith}
-use Rattle.std.proofs.lemmas.Bool.{cases_eq, cases_lt}
+use Rattle.std.proofs.lemmas.Bool.{cases_lt}
 use Rattle.spec_history.specs.Searches.{count_below}
+use Rattle.spec_history.proofs.Searches.Tests.{count_up}
 use Rattle.dependences.specs.Conflict.{AreFalling}
 use Rattle.dependences.proofs.Windows.{count_last}
 
@@ -9,15 +10,6 @@ pub count_none : (n : ℕ) (f : ℕ → Bool) → ((k : ℕ) → f k ≡ false) 
 unfolding count_below
 count_none zero f none = refl
 count_none (suc n) f none = rw (count_none n f none, none n) refl
-
-pub count_up : (m n : ℕ) (f : ℕ → Bool) → m ≤ n → count_below m f ≤ count_below n f
-count_up m zero f most = let none : m ≡ 0 = omega (arith, most) in rw none (omega arith)
-count_up m (suc n) f most = elim (cases_eq m (suc n)) [
-  | inl e ↦ rw e (omega arith)
-  | inr other ↦
-      (let front = count_up m n f (omega (arith, most, other)) in
-      let last = count_last n f (f n) refl in omega (arith, front, last))
-]
 
 -- numbers that fall and pass are no more than those that pass
 pub falling_few : (f : ℕ → Bool) (m : ℕ) (list : List ℕ) → AreFalling m list → All (λ k. f k ≡ true) list → length list ≤ count_below m f

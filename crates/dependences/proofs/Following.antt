@@ -1,5 +1,5 @@
 -- One epoch in order: what is kept while it runs, and when it ends.
-use Rattle.std.proofs.Common.{◌≡◌, ◌≢◌, ◌⊎◌, ℕ, zero, suc, ◌+◌, ◌-◌, ◌<◌, ◌≤◌, Bool, true, false, List, [], length, slice_index, Option, Some, None, refl, sym, ap, subst, ◌∙◌, inl, inr, arith, add-one}
+use Rattle.std.proofs.Common.{◌≡◌, ◌≢◌, ◌⊎◌, ℕ, zero, suc, ◌+◌, ◌-◌, ◌<◌, ◌≤◌, Bool, List, [], length, slice_index, Option, Some, None, refl, sym, ap, subst, ◌∙◌, inl, inr, arith, add-one}
 use Rattle.std.proofs.lemmas.Bool.{cases_eq, cases_lt}
 use Rattle.rv32_image.specs.Image.{LoadedImage}
 use Rattle.memory_bytes.specs.Bytes.{number_at, with_number}
@@ -12,17 +12,16 @@ use Rattle.rv32_exec.specs.Hart.{HartState, start_of, stepped}
 use Rattle.rv32_exec.specs.Execute.{Effect, Stops, hart_effect}
 use Rattle.rv32_exec.specs.NextEvent.{next_event}
 use Rattle.rv32_exec.specs.Arrival.{after_number}
-use Rattle.rv32_exec.specs.Sequential.{Progress, SequentialResult, Runs, Ends, Faults, after_steps, after_stop, execute, exits, first_epochs, go_on, result_of}
+use Rattle.rv32_exec.specs.Sequential.{Progress, SequentialResult, Runs, Ends, Faults, after_steps, after_stop, execute, first_epochs, go_on}
 use Rattle.rv32_exec.specs.Laws.{HasStopped}
-use Rattle.rv32_exec.proofs.Epochs.{first_epochs-ends, first_epochs-exits, one_more_epoch}
 use Rattle.rv32_exec.proofs.LawsOfRuns.{Accesses, after_steps-+, next_event_reached, one_step}
 use Rattle.spec_history.proofs.OneEntry.Accesses.{load_counts}
-use Rattle.spec_history.proofs.OneEntry.Progress.{comes_to_event, event_does, outcome_there}
+use Rattle.spec_history.proofs.OneEntry.Progress.{event_does, no_steps}
 use Rattle.dependences.specs.Paths.{LoadsAt, Stores, StoresAt}
 use Rattle.dependences.specs.Conflict.{IsInOrder, memory_before}
 use Rattle.dependences.specs.Nearest.{Depends, IsNearest}
 use Rattle.dependences.specs.Kept.{AreKept, DependsBefore, IsLastWriter, IsLeast, IsMarked, behind, load_behind}
-use Rattle.dependences.proofs.Paths.{IsAt, access_stops, at_start, covered, either, load_after, neither, now_step, past_load, past_store, path_stores, quiet, reads_there, start_after, store_after}
+use Rattle.dependences.proofs.Paths.{IsAt, access_stops, at_start, covered, either, load_after, neither, now_step, past_load, past_store, path_stores, quiet, reads_there, start_after, store_after, to_event}
 use Rattle.dependences.proofs.Writers.{IsBehind, behind_is, is_behind, least_so, load_least}
 
 -- an epoch before this one depends on another this far before it, or this one does, by what it has loaded so far
@@ -79,9 +78,6 @@ following_start image epoch memory writers nearest long done kept =
 
 -- from a hart on, the next access of its path is its next event
 module _ (image : LoadedImage) (epoch : ℕ) (memory : List ℕ) (h : HartState) (own : ℕ → Option ℕ) (at : IsAt image epoch memory h own) where
-  pub to_event : after_steps image (next_event image h).now.done (start_of image epoch) memory ≡ Runs (next_event image h).now at.after
-  to_event = comes_to_event image (start_of image epoch) h memory at.after refl at.runs
-
   quiet_from : (step : ℕ) (g : HartState) (after : List ℕ) (s : Stop) → h.done ≤ step → step < (next_event image h).now.done
       → after_steps image step (start_of image epoch) memory ≡ Runs g after → hart_effect image g ≡ Stops s → ⊥
   quiet_from step g after s from before runs stops =
@@ -94,7 +90,7 @@ module _ (image : LoadedImage) (epoch : ℕ) (memory : List ℕ) (h : HartState)
   pub hart_there : (step : ℕ) (g : HartState) (after : List ℕ) → step ≡ (next_event image h).now.done
       → after_steps image step (start_of image epoch) memory ≡ Runs g after → (next_event image h).now ≡ g
   hart_there step g after is runs =
-      let same : Runs (next_event image h).now at.after ≡ Runs g after = sym to_event ∙ (sym (ap (λ n. after_steps image n (start_of image epoch) memory) is) ∙ runs) in cc
+      let same : Runs (next_event image h).now at.after ≡ Runs g after = sym (to_event image epoch memory h own at) ∙ (sym (ap (λ n. after_steps image n (start_of image epoch) memory) is) ∙ runs) in cc
 
   -- a load from the hart on is not before the next event
   pub load_late : (a step : ℕ) → LoadsAt image epoch memory step a → h.done ≤ step → (next_event image h).now.done ≤ step
@@ -113,7 +109,8 @@ module _ (image : LoadedImage) (epoch : ℕ) (memory : List ℕ) (h : HartState)
 pub hart_before : (image : LoadedImage) (h : HartState) → h.done ≤ (next_event image h).now.done
 hart_before image h = let counted = (next_event_reached image h []).counted in omega (arith, counted)
 
-stays : (image : LoadedImage) (n : ℕ) (p : Progress) (g : HartState) (memory : List ℕ) → HasStopped p → go_on p (after_steps image n) ≡ Runs g memory → ⊥
+-- what has stopped does not run on
+pub stays : (image : LoadedImage) (n : ℕ) (p : Progress) (g : HartState) (memory : List ℕ) → HasStopped p → go_on p (after_steps image n) ≡ Runs g memory → ⊥
 stays image n (Runs h m) g memory stopped is = stopped
 stays image n (Ends h m) g memory stopped is = cc
 stays image n (Faults cause pc m) g memory stopped is = cc
@@ -121,10 +118,6 @@ stays image n (Faults cause pc m) g memory stopped is = cc
 executes : (image : LoadedImage) (h : HartState) (at : Stop) (memory : List ℕ) → hart_effect image h ≡ Stops at → execute image h memory ≡ after_stop h memory at
 unfolding execute
 executes image h at memory is = rw is refl
-
-no_steps : (image : LoadedImage) (h g : HartState) (memory after : List ℕ) → after_steps image 0 h memory ≡ Runs g after → h ≡ g
-unfolding after_steps
-no_steps image h g memory after runs = cc
 
 accesses_run : (h : HartState) (memory : List ℕ) (s : Stop) → Accesses s → HasStopped (after_stop h memory s) → ⊥
 accesses_run h memory (stop.Load address width signed rd) access stopped = stopped
@@ -371,9 +364,6 @@ up_to image epoch done k (by_it earlier apart depends low) = record { earlier = 
 
 module _ (image : LoadedImage) (epoch : ℕ) (old memory writers : List ℕ) (h : HartState) (nearest : Option ℕ) (x : Following image epoch memory writers h nearest)
     (done : first_epochs image epoch ≡ record { end = end.Done epoch; bytes = old }) (in_loop : epoch < image.epochs) where
-  done_before : first_epochs image epoch ≡ record { end = end.Done epoch; bytes = memory_before image epoch }
-  done_before = done ∙ sym (ap (λ (m : List ℕ). let r : SequentialResult = record { end = end.Done epoch; bytes = m } in r) (ap (λ (r : SequentialResult). r.bytes) done))
-
   up_from : HasStopped (after_stop (next_event image h).now x.at.after (next_event image h).at) → (k : ℕ) → DependsBefore image (epoch + 1) k
       → (j : ℕ) × (j ≤ k) × DependsUpTo image epoch h.done j
   up_from stopped k y = elim (cases_eq y.later epoch) [
@@ -403,24 +393,3 @@ module _ (image : LoadedImage) (epoch : ℕ) (old memory writers : List ℕ) (h 
 
   pub kept_after : HasStopped (after_stop (next_event image h).now x.at.after (next_event image h).at) → AreKept image (epoch + 1) writers nearest
   kept_after stopped = record { long = x.long; writer = λ a. writer_by stopped a (x.own a) refl; least = least_after stopped }
-
-  pub ended_goes_on : (next_event image h).at ≡ stop.Ended → exits image (next_event image h).now ≡ false
-      → first_epochs image (epoch + 1) ≡ record { end = end.Done (epoch + 1); bytes = memory }
-  ended_goes_on is goes_on =
-      let outcome = outcome_there image epoch h (memory_before image epoch) x.at.after (Ends (next_event image h).now x.at.after) x.at.runs (rw is refl) tt in
-      first_epochs-ends image epoch (next_event image h).now (memory_before image epoch) x.at.after done_before (sym outcome) goes_on
-      ∙ ap (λ (m : List ℕ). let r : SequentialResult = record { end = end.Done (epoch + 1); bytes = m } in r) x.is
-
-  pub ended_exits : (next_event image h).at ≡ stop.Ended → exits image (next_event image h).now ≡ true → IsInOrder image (epoch + 1) → ⊥
-  ended_exits is exit order =
-      let outcome = outcome_there image epoch h (memory_before image epoch) x.at.after (Ends (next_event image h).now x.at.after) x.at.runs (rw is refl) tt in
-      let whole = first_epochs-exits image epoch (next_event image h).now (memory_before image epoch) x.at.after done_before (sym outcome) exit in
-      let next : IsInOrder image (suc epoch) = subst (λ n. IsInOrder image n) (add-one epoch) order in
-      let other : end.Exit epoch ≡ end.Done (suc epoch) = sym (ap (λ (r : SequentialResult). r.end) whole) ∙ next in absurd cc
-
-  pub faulted : (cause pc : ℕ) → (next_event image h).at ≡ stop.Fault cause pc → IsInOrder image (epoch + 1) → ⊥
-  faulted cause pc is order =
-      let outcome = outcome_there image epoch h (memory_before image epoch) x.at.after (Faults cause pc x.at.after) x.at.runs (rw is refl) tt in
-      let whole = one_more_epoch image epoch epoch (memory_before image epoch) done_before ∙ ap (result_of image epoch) outcome in
-      let next : IsInOrder image (suc epoch) = subst (λ n. IsInOrder image n) (add-one epoch) order in
-      let other : end.Fault epoch cause pc ≡ end.Done (suc epoch) = sym (ap (λ (r : SequentialResult). r.end) whole) ∙ next in absurd cc

@@ -10,12 +10,12 @@ use Rattle.spec_history.specs.declared.entry.What.TheVariants.{Start, Load, Stor
 use Rattle.spec_history.specs.FlatState.{FlatState, first_state}
 use Rattle.spec_history.specs.Effect.{effect}
 use Rattle.spec_history.specs.Refusal.{refusal_of}
-use Rattle.spec_history.specs.Replay.{replay, replay_from}
+use Rattle.spec_history.specs.Replay.{replay}
 use Rattle.spec_history.specs.Conflict.{is_hurt}
 use Rattle.spec_history.proofs.OneEntry.Legal.{legal_entry}
 use Rattle.spec_history.proofs.Replay.Joining.{splits}
 use Rattle.spec_history.proofs.Replay.Reaching.{no_entries}
-use Rattle.spec_history.proofs.Replay.Replays.{first_whole, legal_by, one_entry, replayed}
+use Rattle.spec_history.proofs.Replay.Replays.{first_whole, one_entry, replayed, one_legal}
 use Rattle.dependences.specs.Conflict.{Conflict}
 use Rattle.homefree.specs.Ending.{NoneStartsAfterCancel}
 use Rattle.dependences.proofs.Windows.{AllRun, CancelsNone, IsInWindow, StartsNone, all_run_still, first_all_run, near_of, near_still}
@@ -47,12 +47,6 @@ pub prefix : (image : LoadedImage) (count : ℕ) (history : List Entry) (last : 
 prefix image count history last n replays =
     let parts = splits image count (take n history) (drop n history) last (ap (replay image count) (take-append-drop n history) ∙ replays) in
     (parts.between, parts.first_replays)
-
-one_legal : (image : LoadedImage) (count : ℕ) (s t : FlatState) (entry : Entry) → replay_from image count s (entry ∷ []) ≡ Some t
-    → (refusal_of image count s entry ≡ None) × (effect image s entry ≡ t)
-unfolding replay_from
-one_legal image count s t entry replays =
-    legal_by image count s entry [] t (refusal_of image count s entry) refl replays (λ legal rest. let same : effect image s entry ≡ t = cc in (legal, same))
 
 -- the entry at a place is legal there
 pub record IsNext (image : LoadedImage) (count : ℕ) (history : List Entry) (n : ℕ) (s : FlatState) (entry : Entry) : Type 0 where
@@ -87,7 +81,7 @@ along image count history last replays P begin step (suc n) s most at =
 
 -- ---- what an entry is not
 
-cancels_none : (what : What) → ((epoch : ℕ) → what ≡ Cancel epoch → ⊥) → CancelsNone what
+pub cancels_none : (what : What) → ((epoch : ℕ) → what ≡ Cancel epoch → ⊥) → CancelsNone what
 cancels_none (Start epoch) other = tt
 cancels_none (Load address width value) other = tt
 cancels_none (Store address width value) other = tt
@@ -98,7 +92,8 @@ cancels_none Publish other = tt
 cancels_none Commit other = tt
 cancels_none (Fault cause pc) other = tt
 
-starts_or : (what : What) → ((epoch : ℕ) × (what ≡ Start epoch)) ⊎ StartsNone what
+-- what starts no epoch, or starts this one
+pub starts_or : (what : What) → ((epoch : ℕ) × (what ≡ Start epoch)) ⊎ StartsNone what
 starts_or (Start epoch) = inl (epoch, refl)
 starts_or (Load address width value) = inr tt
 starts_or (Store address width value) = inr tt

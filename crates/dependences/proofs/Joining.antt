@@ -1,34 +1,18 @@
 -- Sums of dependences by pairs of instructions.
-use Rattle.std.proofs.Common.{◌≡◌, ℕ, ◌+◌, ◌≤◌, ◌==◌, ◌&&◌, Bool, true, false, cond, nat_lt, List, [], ◌∷◌, ◌++◌, length, Option, Some, None, refl, sym, ap, ◌∙◌, arith, eqb-true, ltb-true}
-use Rattle.std.proofs.lemmas.Bool.{and_parts, false_from_ne_true}
-use Rattle.std.specs.Ordering.{is_eq, nat_cmp, ordering_then}
-use Rattle.std.specs.declared.cmp.Ordering.{Ordering}
-use Rattle.std.specs.declared.cmp.Ordering.TheVariants.{Less, Equal, Greater}
+use Rattle.std.proofs.Common.{◌≡◌, ℕ, ◌+◌, ◌≤◌, ◌==◌, ◌&&◌, Bool, true, false, cond, nat_lt, List, [], ◌∷◌, ◌++◌, length, Option, Some, None, refl, sym, ap, ◌∙◌, arith, eqb-true}
+use Rattle.std.proofs.lemmas.Bool.{and_parts}
+use Rattle.std.specs.Ordering.{is_eq, nat_cmp}
+use Rattle.memory_bytes.proofs.SmallFacts.{is_eq_by_tests, is_eq_then, less_apart}
 use Rattle.dependences.specs.declared.flow.Dependence.{Dependence}
 use Rattle.dependences.specs.declared.pairs.PairSum.{PairSum}
 use Rattle.dependences.specs.Pairs.{by_pcs, joins, pair_sum, sum_after, sum_with}
 
 -- ---- the same pcs
 
-first_so : (t e : Bool) (o : Ordering) → (t ≡ true → e ≡ false) → is_eq (ordering_then (cond t Less (cond e Equal Greater)) o) ≡ (e && is_eq o)
-first_so true true o no_both = let clash : true ≡ false = no_both refl in absurd cc
-first_so true false o no_both = refl
-first_so false true o no_both = refl
-first_so false false o no_both = refl
-
-second_so : (t e : Bool) → (t ≡ true → e ≡ false) → is_eq (cond t Less (cond e Equal Greater)) ≡ e
-second_so true true no_both = let clash : true ≡ false = no_both refl in absurd cc
-second_so true false no_both = refl
-second_so false true no_both = refl
-second_so false false no_both = refl
-
-apart : (a b : ℕ) → nat_lt a b ≡ true → (a == b) ≡ false
-apart a b less = false_from_ne_true (a == b) (λ same. omega (arith, ltb-true a b less, eqb-true a b same))
-
 at_pcs : (store load : ℕ) (x : Dependence) → is_eq (by_pcs (x.store_pc, x.load_pc) (store, load)) ≡ joins store load x
 at_pcs store load x =
-    first_so (nat_lt x.store_pc store) (x.store_pc == store) (nat_cmp x.load_pc load) (apart x.store_pc store)
-    ∙ ap (λ b. (x.store_pc == store) && b) (second_so (nat_lt x.load_pc load) (x.load_pc == load) (apart x.load_pc load))
+    is_eq_then (nat_lt x.store_pc store) (x.store_pc == store) (nat_cmp x.load_pc load) (less_apart x.store_pc store)
+    ∙ ap (λ b. (x.store_pc == store) && b) (is_eq_by_tests (nat_lt x.load_pc load) (x.load_pc == load) (less_apart x.load_pc load))
 
 -- ---- one more
 

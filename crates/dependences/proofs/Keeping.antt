@@ -1,5 +1,5 @@
 -- What each legal entry keeps that is no violation.
-use Rattle.std.proofs.Common.{◌≡◌, ℕ, ◌+◌, ◌<◌, ◌≤◌, ◌==◌, not, nat_lt, Bool, true, false, Option, Some, None, refl, sym, ap, ◌∙◌, true≢false, arith, eqb-true, ltb-true}
+use Rattle.std.proofs.Common.{◌≡◌, ℕ, ◌+◌, ◌<◌, ◌≤◌, ◌==◌, not, nat_lt, false, Option, Some, None, refl, sym, ◌∙◌, true≢false, arith, eqb-true, ltb-true}
 use Rattle.std.proofs.lemmas.Bool.{and_parts, not-true}
 use Rattle.rv32_image.specs.Image.{LoadedImage}
 use Rattle.spec_history.specs.declared.entry.What.{What}
@@ -10,16 +10,12 @@ use Rattle.spec_history.specs.Refusal.{runs_and}
 use Rattle.spec_history.specs.Conflict.{is_hurt}
 use Rattle.spec_history.proofs.OneEntry.Legal.{IsLegalEntry, that_load, that_store}
 use Rattle.spec_history.proofs.OneEntry.Going.{Going}
-use Rattle.spec_history.proofs.Replay.Replays.{effect-on, effect-idle, on_core}
+use Rattle.spec_history.proofs.Replay.Replays.{effect-on, effect-idle, on_core, runs_so}
 use Rattle.dependences.specs.Conflict.{Conflict}
 use Rattle.dependences.proofs.Windows.{IsInWindow}
 use Rattle.dependences.proofs.Starting.{IsOrderly, reached, start_orderly}
 use Rattle.dependences.proofs.Accessing.{load_orderly, store_orderly}
 use Rattle.dependences.proofs.Committing.{cancel_orderly, commit_orderly, publish_orderly}
-
--- a core that runs passes the test
-pub passes_so : (core : Option CoreState) (c : CoreState) (test : CoreState → Bool) → core ≡ Some c → runs_and core test ≡ true → test c ≡ true
-passes_so core c test at is = (and_parts (not c.hurt) (test c) (sym (ap (λ o. runs_and o test) at) ∙ is)).1
 
 module _ (image : LoadedImage) (cores : ℕ) (s : FlatState) (going : Going image cores s) (window : IsInWindow cores s) (orderly : IsOrderly image cores s)
     (free : Conflict image cores → ⊥) where
@@ -36,13 +32,13 @@ module _ (image : LoadedImage) (cores : ℕ) (s : FlatState) (going : Going imag
   on_core_orderly by (Hurt epoch) c at legal unhurt none next = absurd (true≢false unhurt)
   on_core_orderly by (Cancel epoch) c at legal unhurt none next =
       let both = and_parts (runs_and (s.cores by) (λ x. nat_lt x.epoch epoch)) _ legal.there in
-      let later : c.epoch < epoch = ltb-true _ _ (passes_so (s.cores by) c (λ x. nat_lt x.epoch epoch) at both.0) in
+      let later : c.epoch < epoch = ltb-true _ _ (runs_so (s.cores by) c (λ x. nat_lt x.epoch epoch) at both.0).passes in
       cancel_orderly image cores s by c epoch going.kept orderly (omega (arith, later, (going.kept.core by c at).from))
   on_core_orderly by Restart c at legal unhurt none next =
       absurd (true≢false (sym (on_core (s.cores by) c (λ x. x.hurt) at legal.there) ∙ (orderly.core by c at).unhurt))
   on_core_orderly by Publish c at legal unhurt none next =
       let homefree = eqb-true _ _ (on_core (s.cores by) c _ at legal.homefree) in
-      let speculative = not-true c.straight (passes_so (s.cores by) c (λ x. not x.straight) at legal.there) in
+      let speculative = not-true c.straight (runs_so (s.cores by) c (λ x. not x.straight) at legal.there).passes in
       publish_orderly image cores s by c going.kept orderly at homefree speculative
   on_core_orderly by Commit c at legal unhurt none next =
       let homefree = eqb-true _ _ (on_core (s.cores by) c _ at legal.homefree) in

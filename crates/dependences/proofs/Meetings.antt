@@ -4,6 +4,7 @@ use Rattle.std.proofs.lemmas.Bool.{and_parts, cases_Bool}
 use Rattle.rv32_image.specs.Image.{LoadedImage}
 use Rattle.rv32_image.proofs.SmallFacts.{value_of}
 use Rattle.memory_bytes.specs.Maps.{over}
+use Rattle.memory_bytes.proofs.SmallFacts.{some_wide}
 use Rattle.rv32_exec.specs.declared.stop.Stop.TheVariants as stop
 use Rattle.rv32_exec.specs.Execute.{IsAccess, IsStore}
 use Rattle.rv32_exec.specs.NextEvent.{next_event}
@@ -25,7 +26,6 @@ use Rattle.dependences.proofs.Paths.{IsAt, covered, loads_there, stores_there}
 use Rattle.dependences.proofs.Windows.{IsInWindow}
 use Rattle.dependences.proofs.Starting.{IsOrderly, beside, core_reached}
 use Rattle.dependences.proofs.Committing.{own_stored}
-use Rattle.dependences.proofs.Words.{some_wide}
 
 -- ---- the kinds
 

@@ -16,7 +16,7 @@ use Rattle.rv32_exec.proofs.Steps.{executes_counts}
 use Rattle.rv32_exec.proofs.Runs.{event_within_executes, event_within_stops, next_event-executes, next_event-stops}
 use Rattle.rv32_exec.proofs.LawsOfRuns.{Accesses, after_steps-+, next_event_reached, one_step}
 use Rattle.spec_history.specs.Laws.{Holds}
-use Rattle.spec_history.proofs.OneEntry.Progress.{comes_to_event, comes_past_access}
+use Rattle.spec_history.proofs.OneEntry.Progress.{comes_to_event, comes_past_access, no_steps}
 use Rattle.spec_history.proofs.OneEntry.Keeping.{start_runs}
 use Rattle.spec_history.proofs.OneEntry.Accesses.{load_goes_on, load_counts, store_goes_on, store_within, holds_stored}
 use Rattle.dependences.specs.Paths.{LoadsAt, ReadsOutside, Stores, StoresAt}
@@ -44,10 +44,6 @@ event_stops image (suc n) h access = stops_by image n h (hart_effect image h) re
 pub access_stops : (image : LoadedImage) (h : HartState) → Accesses (next_event image h).at → hart_effect image (next_event image h).now ≡ Stops (next_event image h).at
 unfolding next_event
 access_stops image h access = event_stops image (image.limit - h.done + 1) h access
-
-no_steps : (image : LoadedImage) (h g : HartState) (memory memory' : List ℕ) → after_steps image 0 h memory ≡ Runs g memory' → h ≡ g
-unfolding after_steps
-no_steps image h g memory memory' runs = cc
 
 executed : (image : LoadedImage) (h after : HartState) (memory : List ℕ) → hart_effect image h ≡ Executes after → execute image h memory ≡ Runs after memory
 unfolding execute
@@ -104,7 +100,7 @@ unfolding at_start
 start_after image epoch memory long = refl
 
 module _ (image : LoadedImage) (epoch : ℕ) (memory : List ℕ) (h : HartState) (own : ℕ → Option ℕ) (at : IsAt image epoch memory h own) where
-  to_event : after_steps image (next_event image h).now.done (start_of image epoch) memory ≡ Runs (next_event image h).now at.after
+  pub to_event : after_steps image (next_event image h).now.done (start_of image epoch) memory ≡ Runs (next_event image h).now at.after
   to_event = comes_to_event image (start_of image epoch) h memory at.after refl at.runs
 
   run_from : (j : ℕ) → after_steps image (h.done + j) (start_of image epoch) memory ≡ after_steps image j h at.after

@@ -140,12 +140,13 @@ overflow_of image cores memory x =
 -- ---- what is written in order
 
 -- the byte is as it was before this epoch, or one from it on, and before that one, stores it in order
-abbrev IsWrittenInOrder : LoadedImage → ℕ → ℕ → ℕ → Type 0
+abbrev pub IsWrittenInOrder : LoadedImage → ℕ → ℕ → ℕ → Type 0
 IsWrittenInOrder image from to a =
     (slice_index (memory_before image to) a ≡ slice_index (memory_before image from) a)
     ⊎ ((x : ℕ) × (from ≤ x) × (x < to) × Stores image x (memory_before image x) a)
 
-record IsUp (image : LoadedImage) (h : ℕ) : Type 0 where
+-- so is each byte, from each epoch up to this one on
+pub record IsUp (image : LoadedImage) (h : ℕ) : Type 0 where
   pub long : length (memory_before image h) ≡ image.size
   pub written : (d : ℕ) → d ≤ h → (a : ℕ) → IsWrittenInOrder image d h a
 
@@ -164,7 +165,7 @@ up_next image h is up =
     }
 
 -- for each epoch that runs in order
-all_up : (image : LoadedImage) (h : ℕ) → IsImage image → IsInOrder image h → IsUp image h
+pub all_up : (image : LoadedImage) (h : ℕ) → IsImage image → IsInOrder image h → IsUp image h
 all_up image zero is order = record {
   long = memory_none image is;
   written = λ d most a. let none : 0 ≡ d = omega (arith, most) in subst (λ n. IsWrittenInOrder image n 0 a) none (inl refl);

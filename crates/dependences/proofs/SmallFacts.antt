@@ -1,13 +1,8 @@
 -- Small facts of options, and of what a hart does.
-use Rattle.std.proofs.Common.{◌≡◌, ℕ, Bool, Option, Some, None, unwrap_or, refl}
+use Rattle.std.proofs.Common.{◌≡◌, ℕ, Bool, Option, Some, None, refl}
 use Rattle.memory_bytes.specs.Maps.{first_of}
 use Rattle.rv32_exec.specs.declared.stop.Stop.TheVariants as stop
 use Rattle.rv32_exec.specs.Execute.{Effect, Stops}
-
--- a byte that is a core's own, or is read where it has none
-pub seen_by : (own : Option ℕ) (here there : ℕ) → (own ≡ None → here ≡ there) → unwrap_or own here ≡ unwrap_or own there
-seen_by None here there same = same refl
-seen_by (Some byte) here there same = refl
 
 -- of two bytes, where the second is there
 pub either_some : (first second : Option ℕ) (byte : ℕ) → second ≡ Some byte → (b : ℕ) × (first_of first second ≡ Some b)

@@ -12,13 +12,10 @@ use Rattle.spec_history.proofs.OneEntry.Keeping.{with_core_same, with_core_other
 use Rattle.spec_history.proofs.OneEntry.Legal.{IsLegalEntry}
 use Rattle.spec_history.proofs.OneEntry.Going.{Going}
 use Rattle.spec_history.proofs.Replay.Replays.{effect-on, effect-idle}
+use Rattle.spec_history.proofs.OneEntry.Entries.{hurt_there}
+use Rattle.spec_history.proofs.Searches.Tests.{count_same}
 
 -- ---- counts
-
-pub count_same : (n : ℕ) (f g : ℕ → Bool) → ((k : ℕ) → k < n → f k ≡ g k) → count_below n f ≡ count_below n g
-unfolding count_below
-count_same zero f g same = refl
-count_same (suc n) f g same = rw (count_same n f g (λ k below. same k (omega (arith, below))), same n (omega arith)) refl
 
 most_by : (n : ℕ) (f : ℕ → Bool) (b : Bool) → count_below n f ≤ n → count_below n f + cond b 1 0 ≤ suc n
 most_by n f true most = omega (arith, most)
@@ -64,10 +61,6 @@ still_there cores by c new at k = elim (cases_eq k by) [
   | inl e ↦ rw e (ap is_some (with_core_same cores by (Some new)) ∙ sym (ap is_some at))
   | inr other ↦ ap is_some (with_core_other cores by (Some new) k other)
 ]
-
-hurt_there : (epoch : ℕ) (core : Option CoreState) → is_some (hurt_at epoch core) ≡ is_some core
-hurt_there epoch None = refl
-hurt_there epoch (Some c) = refl
 
 keeps_running : (count : ℕ) (s : FlatState) (by : ℕ) (c new : CoreState) → s.cores by ≡ Some c → AllRun count s
     → s.next_epoch ≤ s.homefree + running count (with_core s.cores by (Some new))

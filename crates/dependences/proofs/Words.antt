@@ -1,6 +1,7 @@
 -- The line of an aligned access, and what is noted of it.
-use Rattle.std.proofs.Common.{◌≡◌, ◌≢◌, ℕ, ◌+◌, ◌/◌, ◌%◌, ◌<◌, true, List, inl, inr, subst, sym, ap, ◌∙◌, slice_index, arith}
+use Rattle.std.proofs.Common.{◌≡◌, ◌≢◌, ℕ, ◌+◌, ◌/◌, ◌%◌, ◌<◌, true, List, subst, sym, ap, ◌∙◌, slice_index, arith}
 use Rattle.memory_bytes.specs.Bytes.{IsWidth}
+use Rattle.memory_bytes.proofs.SmallFacts.{by_width, some_wide}
 use Rattle.rv32_image.specs.Image.{LoadedImage, IsImage}
 use Rattle.rv32_image.specs.Machine.{is_line_length}
 use Rattle.rv32_image.specs.Places.{place}
@@ -8,14 +9,6 @@ use Rattle.rv32_image.proofs.Bounds.{by_length}
 use Rattle.rv32_image.proofs.Places.{place-aligned, place-word}
 use Rattle.spec_history.specs.Conflict.{line_number}
 use Rattle.dependences.specs.KeptLines.{AreLinesMarked, AreLinesNoted, IsLineNoted, LastTwo, Lines, MeetsLine, other_before}
-
-by_width : (P : ℕ → Type 0) (width : ℕ) → IsWidth width → P 1 → P 2 → P 4 → P width
-by_width P width (inl one) of_1 of_2 of_4 = subst P (sym one) of_1
-by_width P width (inr (inl two)) of_1 of_2 of_4 = subst P (sym two) of_2
-by_width P width (inr (inr four)) of_1 of_2 of_4 = subst P (sym four) of_4
-
-pub some_wide : (width : ℕ) → IsWidth width → 0 < width
-some_wide width wide = by_width (λ n. 0 < n) width wide (omega arith) (omega arith) (omega arith)
 
 word_in : (n p width i : ℕ) → is_line_length n ≡ true → IsWidth width → p % width ≡ 0 → i < width → (p + i) / n ≡ p / n
 word_in n p width i long wide =

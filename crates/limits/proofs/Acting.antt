@@ -19,7 +19,7 @@ use Rattle.spec_history.specs.Effect.{effect_idle, effect_on, with_core}
 use Rattle.spec_history.specs.FlatState.{CoreState, FlatState, begun, end_at}
 use Rattle.spec_history.specs.Laws.{HasBytes}
 use Rattle.spec_history.specs.Replay.{replay, replay_from}
-use Rattle.spec_history.proofs.OneEntry.Accesses.{load_counts}
+use Rattle.spec_history.proofs.OneEntry.Accesses.{load_counts, still_read}
 use Rattle.spec_history.proofs.OneEntry.Going.{Going}
 use Rattle.spec_history.proofs.OneEntry.Keeping.{with_core_other, with_core_same}
 use Rattle.spec_history.proofs.Replay.Joining.{history_goes_on, no_entry}
@@ -45,7 +45,7 @@ use Rattle.limits.proofs.Marks.{IsDone, IsPath, IsTimed, IsTimedIn, IsUnder, Mar
 use Rattle.limits.proofs.Marking.{goes, hurt_back, hurt_some}
 use Rattle.limits.proofs.Beginning.{again_marks, begins_again, begun_marks, one_here, one_other, starts}
 use Rattle.limits.proofs.Events.{event_alters, event_marks, event_under}
-use Rattle.limits.proofs.Pathing.{path_loaded, path_stored, shown_by, shown_more, shown_other, shown_past, still_read, straight_loaded, straight_stored}
+use Rattle.limits.proofs.Pathing.{path_loaded, path_stored, shown_by, shown_more, shown_other, shown_past, straight_loaded, straight_stored}
 use Rattle.limits.proofs.Leaving.{homefree_read, leaves, left_marks, path}
 use Rattle.limits.proofs.Finishing.{IsBound, over_done, over_exit, over_fault}
 

@@ -1,7 +1,8 @@
 -- A core that is held at a load depends there on an epoch that hasn't committed.
 use Rattle.std.proofs.Common.{◌≡◌, ℕ, zero, suc, ◌+◌, ◌<◌, ◌≤◌, ◌==◌, ◌&&◌, ◌||◌, not, nat_le, nat_lt, is_none, Bool, true, false, List, Option, Some, refl, sym, ap, subst, ◌∙◌, inl, inr, true≢false, arith, eqb-true}
-use Rattle.std.proofs.lemmas.Bool.{and_parts, cases_Bool, cases_eq, cases_lt, le-leb, lt-ltb}
+use Rattle.std.proofs.lemmas.Bool.{and_parts, cases_Bool, cases_eq, cases_lt, le-leb, lt-ltb, leb-true, ltb-true}
 use Rattle.std.proofs.lemmas.List.Folds.{Any-from_list_any}
+use Rattle.memory_bytes.proofs.SmallFacts.{none_is}
 use Rattle.rv32_exec.specs.declared.stop.Stop.TheVariants as stop
 use Rattle.rv32_image.specs.Image.{LoadedImage}
 use Rattle.rv32_exec.specs.Hart.{HartState, start_of}
@@ -17,7 +18,7 @@ use Rattle.dependences.proofs.Paths.{IsAt, before_event, loads_there}
 use Rattle.even_speed.specs.Held.{Holding, is_held, is_stored, reads_stored, waits_by}
 use Rattle.limits.specs.HeldBound.{HoldsInOrder}
 use Rattle.limits.proofs.Stopping.{before_end, lasts_some}
-use Rattle.limits.proofs.Unstored.{IsStored, at_least, both, less_than, none_is, piece_is, told_of}
+use Rattle.limits.proofs.Unstored.{IsStored, both, piece_is, told_of}
 
 -- ---- the last number that passes a test
 
@@ -83,8 +84,8 @@ stored_by image epoch step a memory h after (Stops (stop.Store address width val
       value = value;
       runs = runs;
       stops = is;
-      from = at_least address a parts.0;
-      below = less_than a (address + width) parts.1;
+      from = leb-true address a parts.0;
+      below = ltb-true a (address + width) parts.1;
     }
 
 there_by : (image : LoadedImage) (epoch step a : ℕ) (memory : List ℕ) (p : Progress) → after_steps image step (start_of image epoch) memory ≡ p → store_at image p a ≡ true
@@ -185,7 +186,7 @@ module _ (image : LoadedImage) (holds : Holding) (h : HoldsInOrder image holds) 
       let d_parts = and_parts (nat_le homefree by.0) (holds.stores by.0 (holds.piece a)) by.2 in
       let stored = told_of_piece by.0 a d_parts.1 in
       let last = last_store epoch by.0 a (omega (arith, within)) order by.1 stored in
-      let from = at_least homefree by.0 d_parts.0 in
+      let from = leb-true homefree by.0 d_parts.0 in
       let more = last.1 in (
         a,
         last.0,

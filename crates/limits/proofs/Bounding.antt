@@ -95,6 +95,10 @@ pub by_other : {A : Type 0} (P : A → Type 0) (b : Bool) (x y : A) → b ≡ fa
 by_other P true x y is holds = absurd cc
 by_other P false x y is holds = holds
 
+-- the clock of a core that doesn't act is as it was
+pub late_other : (queues : Bool) (clocks : ℕ → Clock) (t : Turn) (k : ℕ) → k ≢ t.core → late_clocks queues clocks t k ≡ clocks k
+late_other queues clocks t k other = by_other (λ (c : Clock). c ≡ clocks k) (k == t.core) _ (clocks k) (ne_eqb k t.core other) refl
+
 -- ---- a store that made room
 
 clear_same : (v w : StoreView) (k : ℕ) → IsSameView v w → IsClear v k → IsClear w k
@@ -206,9 +210,6 @@ module _ {S : Type 0} (makes : S → Call → S → Type 0) (view : S → StoreV
       due_woken (m.from k + gap image (s.cores k)) need p.free.began t.at (p.clocks k) less late (x.due k below),
     )
 
-    late_other : (k : ℕ) → k ≢ t.core → late_clocks paced.queues p.clocks t k ≡ p.clocks k
-    late_other k other = by_other (λ (c : Clock). c ≡ p.clocks k) (k == t.core) _ (p.clocks k) (ne_eqb k t.core other) refl
-
     abbrev next : Option Arrival
     next = option_map (arrival_of old.book.image) (p.held t.core)
 
@@ -265,13 +266,13 @@ module _ {S : Type 0} (makes : S → Call → S → Type 0) (view : S → StoreV
         → IsDueFrom need t.at (woken t.at (if k == t.core then its answer k else late_clocks paced.queues p.clocks t k)).next
     woken_other answer k need other below less =
         by_other (λ (c : Clock). IsDueFrom need t.at (woken t.at c).next) (k == t.core) (its answer k) (late_clocks paced.queues p.clocks t k) (ne_eqb k t.core other)
-        (subst (λ (c : Clock). IsDueFrom need t.at (woken t.at c).next) (sym (late_other k other)) (other_due answer k need other below less).1)
+        (subst (λ (c : Clock). IsDueFrom need t.at (woken t.at c).next) (sym (late_other paced.queues p.clocks t k other)) (other_due answer k need other below less).1)
 
     still_other : (answer : Answer) (k need : ℕ) → k ≢ t.core → k < cores → need ≤ m.from k + gap image (s.cores k)
         → IsDueFrom need t.at (if k == t.core then its answer k else late_clocks paced.queues p.clocks t k).next
     still_other answer k need other below less =
         by_other (λ (c : Clock). IsDueFrom need t.at c.next) (k == t.core) (its answer k) (late_clocks paced.queues p.clocks t k) (ne_eqb k t.core other)
-        (subst (λ (c : Clock). IsDueFrom need t.at c.next) (sym (late_other k other)) (other_due answer k need other below less).0)
+        (subst (λ (c : Clock). IsDueFrom need t.at c.next) (sym (late_other paced.queues p.clocks t k other)) (other_due answer k need other below less).0)
 
     go_own : (hart : HartState) (need : ℕ) → need ≤ t.at + 1 + ((next_event image hart).now.done - hart.done) → IsDueFrom need t.at ((pace (Go hart)).clocks t.core).next
     go_own hart need most =

@@ -13,9 +13,6 @@ use Rattle.even_speed.specs.Pricing.{later}
 use Rattle.limits.proofs.Plans.{IsAccessBy, IsBy, IsEndBy}
 use Rattle.limits.proofs.Quiet.{IsAccess}
 
-pub later_most : (now due bound : ℕ) → now ≤ bound → due ≤ bound → later now due ≤ bound
-later_most now due bound first second = grind (arith, nat_tests)
-
 pub later_from : (now due : ℕ) → now ≤ later now due
 later_from now due = grind (arith, nat_tests)
 

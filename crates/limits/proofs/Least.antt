@@ -14,7 +14,7 @@ use Rattle.limits.proofs.Stopping.{lasts_once, lasts_some, before_end}
 -- ---- any timing
 
 module _ (image : LoadedImage) (waits : Waits) (cores epochs : ℕ) (t : Timing) (is : IsTiming image waits cores epochs t) where
-  climbs : (epoch length place k : ℕ) → epoch < epochs → Lasts image epoch length → place + k ≤ length → t.at epoch place + k ≤ t.at epoch (place + k)
+  pub climbs : (epoch length place k : ℕ) → epoch < epochs → Lasts image epoch length → place + k ≤ length → t.at epoch place + k ≤ t.at epoch (place + k)
   climbs epoch length place zero low lasts within =
       let same : place + 0 ≡ place = omega arith in rw same (omega arith)
   climbs epoch length place (suc k) low lasts within =

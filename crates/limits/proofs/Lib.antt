@@ -1,5 +1,3 @@
--- Small facts that several files use.
-mod SmallFacts
 -- An epoch's run stops once.
 pub mod Stopping
 -- Steps that are as early as they can be, one epoch after another; and that no others are earlier.

@@ -18,12 +18,12 @@ use Rattle.even_speed.specs.Clocks.{due_of}
 use Rattle.even_speed.specs.Even.{Pace, Pacing, at_first}
 use Rattle.even_speed.specs.Held.{held_in}
 use Rattle.even_speed.specs.Pricing.{over_at}
+use Rattle.even_speed.proofs.Sounding.{later_bound}
 use Rattle.limits.specs.declared.limit.Waits.TheVariants.{Commit}
 use Rattle.limits.specs.Bound.{NeverWaits}
 use Rattle.limits.specs.HeldBound.{HasNoCaches, TakesLimit}
 use Rattle.limits.specs.Limits.{IsTiming, Timing, steps_of}
 use Rattle.limits.proofs.Bounding.{below_runs, for_commits, unheld}
-use Rattle.limits.proofs.Dues.{later_most}
 use Rattle.limits.proofs.Finishing.{one_count}
 use Rattle.limits.proofs.Planning.{began, begins_at, by_commit, committed, order_after, over_soon, passed, waited}
 use Rattle.limits.proofs.Plans.{IsOnPlan}
@@ -65,7 +65,7 @@ module _ {S : Type 0} (paced : Pacing S) (view : S → StoreView) (waits : S →
       let began = start.0 in
       let due = due_zero (p.clocks t.core).next t.due (start.1 t.core) (unheld (held_in paced.holds old.book p.held t.core) (p.clocks t.core).next t.due it.first.due) in
       let at = begins_at paced view waits costless old mid p t s it in
-      let none_yet = later_most p.free.began t.due 0 (omega (arith, began)) (omega (arith, due)) in
+      let none_yet = later_bound p.free.began t.due 0 (omega (arith, began)) (omega (arith, due)) in
       let zero : t.at ≡ 0 = omega (arith, at, none_yet) in
       let soon = over_soon paced view waits costless old mid p t s it x.order in
       let some = no_epoch epochs plan (omega (arith, none, most)) in omega (arith, zero, soon, some, steps)

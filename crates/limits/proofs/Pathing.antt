@@ -1,5 +1,5 @@
 -- A core stays on the path of its epoch, as it accesses memory and publishes.
-use Rattle.std.proofs.Common.{◌≡◌, ℕ, ◌<◌, ◌≤◌, Bool, true, false, is_some, List, slice_index, Option, Some, None, if◌then◌else◌, refl, sym, ap, subst, ◌∙◌, inl, inr, true≢false, arith}
+use Rattle.std.proofs.Common.{◌≡◌, ℕ, ◌<◌, ◌≤◌, Bool, true, false, is_some, List, slice_index, Option, Some, if◌then◌else◌, refl, sym, ap, subst, ◌∙◌, inl, inr, true≢false, arith}
 use Rattle.std.proofs.lemmas.Bool.{cases_Bool, cases_lt, cond-false, cond-true}
 use Rattle.rv32_exec.specs.declared.stop.Stop.TheVariants as stop
 use Rattle.memory_bytes.specs.Bytes.{number_at}
@@ -15,19 +15,19 @@ use Rattle.spec_history.specs.FlatState.{CoreState, FlatState}
 use Rattle.spec_history.specs.Laws.{HasBytes}
 use Rattle.spec_history.proofs.OneEntry.Accesses.{load_counts}
 use Rattle.spec_history.proofs.OneEntry.Going.{Going, homefree_run}
-use Rattle.spec_history.proofs.OneEntry.Keeping.{noted, noted_within}
+use Rattle.spec_history.proofs.OneEntry.Keeping.{noted}
 use Rattle.dependences.specs.Conflict.{memory_before}
 use Rattle.dependences.specs.Paths.{StoresAt}
 use Rattle.dependences.proofs.Paths.{IsAt, access_stops, past_load, past_store, same_store}
 use Rattle.dependences.proofs.Following.{hart_before, hart_there, load_late, no_both, store_late}
 use Rattle.dependences.proofs.Outside.{read_by_load, read_by_store}
 use Rattle.memory_bytes.proofs.Bytes.{stored_within}
+use Rattle.memory_bytes.proofs.SmallFacts.{seen_by, some_first, some_unless}
 use Rattle.limits.specs.declared.limit.Waits.{Waits}
 use Rattle.limits.specs.Limits.{awaited}
 use Rattle.limits.proofs.Marks.{IsDone, IsPath, IsUnder, Marks}
 use Rattle.limits.proofs.Marking.{awaited_still}
 use Rattle.limits.proofs.Events.{at_before, at_event, event_alters, event_marks}
-use Rattle.limits.proofs.SmallFacts.{seen_by}
 
 -- ---- bytes that are committed now
 
@@ -53,29 +53,6 @@ shown_past bytes shown now past a = elim (cases_Bool (is_some (bytes a))) [
   | inl is ↦ (let here = shown_here bytes shown now a is in omega (arith, here))
   | inr is ↦ (let here = shown_other bytes shown now a is in let low = past a in omega (arith, here, low))
 ]
-
--- ---- what was read
-
-still_by : (c : CoreState) (committed : ℕ → ℕ) (address width a byte : ℕ) (now : Option ℕ) → read_outside address width c.own committed a ≡ now
-    → c.outside a ≡ Some byte → committed a ≡ byte → first_of now (c.outside a) ≡ Some byte
-still_by c committed address width a byte None now before stands = before
-still_by c committed address width a byte (Some b) now before stands = ap Some ((noted_within address width a b c.own committed now).1 ∙ stands)
-
-pub still_read : (image : LoadedImage) (c : CoreState) (committed : ℕ → ℕ) (address width : ℕ) (memory : List ℕ)
-    → ((a byte : ℕ) → c.outside a ≡ Some byte → committed a ≡ byte)
-    → HasBytes image (joined (read_outside address width c.own committed) c.outside) memory → HasBytes image c.outside memory
-still_read image c committed address width memory stands has = record {
-  long = has.long;
-  bytes = λ a byte before. has.bytes a byte (still_by c committed address width a byte (read_outside address width c.own committed a) refl before (stands a byte before));
-}
-
-some_either : (first second : Option ℕ) → is_some second ≡ true → is_some (first_of first second) ≡ true
-some_either None second is = is
-some_either (Some byte) second is = refl
-
-none_stored : (o : Option ℕ) → (o ≡ None → ⊥) → is_some o ≡ true
-none_stored None some = absurd (some refl)
-none_stored (Some byte) some = refl
 
 -- ---- a core that speculates
 
@@ -113,7 +90,7 @@ module _ (image : LoadedImage) (waits : Waits) (m : Marks) (by now : ℕ) (c : C
               (let was = p.guarded speculates a reads before in
               let at = at_before m by c.epoch c.hart.done event now m.shown reads.step before in
               let less = was.1 in
-              (some_either (read_outside address width c.own committed a) (c.outside a) was.0, omega (arith, less, at)))
+              (some_first (read_outside address width c.own committed a) (c.outside a) was.0, omega (arith, less, at)))
           | inr from ↦
               (let late = load_late image c.epoch memory c.hart c.own own_at a reads.step reads.there from in
               let at = at_event m by c.epoch c.hart.done event now m.shown reads.step (hart_before image c.hart) late in
@@ -146,7 +123,7 @@ module _ (image : LoadedImage) (waits : Waits) (m : Marks) (by now : ℕ) (c : C
 
   -- what it has stored is its own
   pub own_stored : (a place : ℕ) → place < c.hart.done → StoresAt image c.epoch memory place a → is_some (c.own a) ≡ true
-  own_stored a place low there = none_stored (c.own a) (λ none. own_at.no_others a place none low there)
+  own_stored a place low there = some_unless (c.own a) (λ none. own_at.no_others a place none low there)
 
   -- it publishes
   pub path_published : (x : IsUnder image waits m by c) → m.from by ≤ now → ((d : ℕ) → d < c.epoch → IsDone image waits now m d)

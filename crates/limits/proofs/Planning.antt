@@ -1,5 +1,5 @@
 -- A turn of a run in which loads wait for stores in order, where turns cost nothing, beside a timing: no step comes later.
-use Rattle.std.proofs.Common.{◌≡◌, ◌≢◌, ℕ, ◌+◌, ◌-◌, ◌<◌, ◌≤◌, ◌==◌, ◌&&◌, ◌||◌, not, Bool, true, false, List, ◌++◌, Some, None, if◌then◌else◌, refl, sym, ap, subst, ◌∙◌, inl, inr, arith, eq-eqb, ne_eqb}
+use Rattle.std.proofs.Common.{◌≡◌, ◌≢◌, ℕ, ◌+◌, ◌-◌, ◌<◌, ◌≤◌, ◌==◌, ◌&&◌, ◌||◌, not, Bool, false, List, ◌++◌, Some, None, if◌then◌else◌, refl, sym, ap, subst, ◌∙◌, inl, inr, arith, eq-eqb, ne_eqb}
 use Rattle.std.proofs.lemmas.Bool.{cases_Bool, cases_eq, cases_lt, and_right}
 use Rattle.rv32_exec.specs.declared.stop.Stop.{Stop}
 use Rattle.rv32_exec.specs.declared.stop.Stop.TheVariants as stop
@@ -31,12 +31,13 @@ use Rattle.even_speed.specs.Account.{total}
 use Rattle.even_speed.specs.Clocks.{answered, due_of, dues, late_clocks, woken}
 use Rattle.even_speed.specs.Even.{Pace, Pacing, executed_by, pace_after, prices_in, restarts}
 use Rattle.even_speed.specs.Held.{are_held, epoch_run, held_in, is_held, own_run, waits_by}
-use Rattle.even_speed.specs.Pricing.{begins, free_after, if_needed, later, leaves, no_price, over_at}
+use Rattle.even_speed.specs.Pricing.{begins, free_after, later, leaves, no_price, over_at}
+use Rattle.even_speed.proofs.Sounding.{later_bound, needed_bound}
 use Rattle.limits.specs.declared.limit.Waits.TheVariants.{Commit}
 use Rattle.limits.specs.Limits.{IsTiming, Timing}
 use Rattle.limits.proofs.Awaiting.{held_depends}
-use Rattle.limits.proofs.Bounding.{by_other, by_test}
-use Rattle.limits.proofs.Dues.{by_due, by_later, by_wait, by_woken, later_from, later_most, woken_due}
+use Rattle.limits.proofs.Bounding.{by_other, by_test, late_other}
+use Rattle.limits.proofs.Dues.{by_due, by_later, by_wait, by_woken, later_from, woken_due}
 use Rattle.limits.proofs.Plans.{BeginsBy, IsAccessBy, IsBy, IsEndBy, IsOnPlan, IsSlot, MayBegin, begins_commits, begins_within, both_begin, commits_rise, event_commits, later_begins, places_rise}
 use Rattle.limits.proofs.Quiet.{After, AreQuiet, Began, Committed, IsAccess, IsQuiet, Passed}
 use Rattle.limits.proofs.Quiet as quiet
@@ -59,21 +60,17 @@ module _ {S : Type 0} (paced : Pacing S) (view : S → StoreView) (waits : S →
   goes_on = let same = begins_at in let from = later_from p.free.began t.due in omega (arith, same, from)
 
   -- nor does a commit go on after it
-  order_by : (needs : Bool) (after order bound : ℕ) → after ≤ bound → order ≤ bound → if_needed needs after order ≤ bound
-  order_by true after order bound first second = later_most after order bound first second
-  order_by false after order bound first second = second
-
   pub order_after : (answer : Answer) → p.free.order ≤ p.free.began → (free_after p.free t.at t.price answer).order ≤ t.at
   order_after answer before =
       let none = costs_none in
       let from = goes_on in
-      order_by (t.price.in_order || leaves answer) (t.at + total t.price.spent) p.free.order t.at (omega (arith, none)) (omega (arith, before, from))
+      needed_bound (t.price.in_order || leaves answer) (t.at + total t.price.spent) p.free.order t.at (omega (arith, none)) (omega (arith, before, from))
 
   pub over_soon : p.free.order ≤ p.free.began → over_at p.free t.at t.price ≤ t.at + 1
   over_soon before =
       let none = costs_none in
       let from = goes_on in
-      let most = later_most p.free.order (t.at + total t.price.spent) t.at (omega (arith, before, from)) (omega (arith, none)) in omega (arith, most)
+      let most = later_bound p.free.order (t.at + total t.price.spent) t.at (omega (arith, before, from)) (omega (arith, none)) in omega (arith, most)
 
 module _ {S : Type 0} (paced : Pacing S) (view : S → StoreView) (waits : S → StoreWaits) (costless : paced.pricing ≡ None) (old mid : Driver S) (p : Pace) (t : Turn) (s : FlatState)
     (it : IsTurn paced view waits old mid p t s) (still : s.end ≡ None) (epochs : ℕ) (plan : Timing) (all : AreAll old.book.image epochs)
@@ -100,9 +97,6 @@ module _ {S : Type 0} (paced : Pacing S) (view : S → StoreView) (waits : S →
   core_low k c at order =
       let below = (going.kept.core k c at).below in let most = going.kept.started in all.no_more c.epoch (omega (arith, below, most)) order
 
-  spends_none : total t.price.spent ≡ 0
-  spends_none = costs_none paced view waits costless old mid p t s it
-
   after_now : now ≤ t.at
   after_now = goes_on paced view waits costless old mid p t s it
 
@@ -111,7 +105,7 @@ module _ {S : Type 0} (paced : Pacing S) (view : S → StoreView) (waits : S →
       let due : dues (held_in paced.holds old.book p.held) p.clocks k ≡ Some d = ap (λ (b : Bool). if b then None else due_of (p.clocks k).next) unheld ∙ ap due_of is in
       let most = it.first.soonest k d below due in
       let same : begins p.free (prices_in paced.pricing waits old.book p.held k) d ≡ later now d = ap (λ q. begins p.free q d) (price_none paced view waits costless old mid p t s it k) in
-      let low = later_most now d bound first second in omega (arith, most, same, low)
+      let low = later_bound now d bound first second in omega (arith, most, same, low)
 
   -- ---- who is held
 
@@ -231,33 +225,30 @@ module _ {S : Type 0} (paced : Pacing S) (view : S → StoreView) (waits : S →
   abbrev its : Answer → ℕ → Clock
   its answer k = answered t.at (restarts old mid) (executed_by image answer) t.price.spent answer (late_clocks paced.queues p.clocks t k)
 
-  late_other : (k : ℕ) → k ≢ t.core → late_clocks paced.queues p.clocks t k ≡ p.clocks k
-  late_other k other = by_other (λ (c : Clock). c ≡ p.clocks k) (k == t.core) _ (p.clocks k) (ne_eqb k t.core other) refl
-
   go_other : (hart : HartState) (k : ℕ) → k ≢ t.core → (pace (Go hart)).clocks k ≡ woken t.at (p.clocks k)
   go_other hart k other =
       by_other (λ (c : Clock). woken t.at c ≡ woken t.at (p.clocks k)) (k == t.core) (its (Go hart) k) (late_clocks paced.queues p.clocks t k) (ne_eqb k t.core other)
-      (ap (woken t.at) (late_other k other))
+      (ap (woken t.at) (late_other paced.queues p.clocks t k other))
 
   left_other : (k : ℕ) → k ≢ t.core → (pace Left).clocks k ≡ woken t.at (p.clocks k)
   left_other k other =
       by_other (λ (c : Clock). woken t.at c ≡ woken t.at (p.clocks k)) (k == t.core) (its Left k) (late_clocks paced.queues p.clocks t k) (ne_eqb k t.core other)
-      (ap (woken t.at) (late_other k other))
+      (ap (woken t.at) (late_other paced.queues p.clocks t k other))
 
   again_other : (cause : Cause) (k : ℕ) → k ≢ t.core → (pace (Again cause)).clocks k ≡ p.clocks k
   again_other cause k other =
-      by_other (λ (c : Clock). c ≡ p.clocks k) (k == t.core) (its (Again cause) k) (late_clocks paced.queues p.clocks t k) (ne_eqb k t.core other) (late_other k other)
+      by_other (λ (c : Clock). c ≡ p.clocks k) (k == t.core) (its (Again cause) k) (late_clocks paced.queues p.clocks t k) (ne_eqb k t.core other) (late_other paced.queues p.clocks t k other)
 
   go_own : (hart : HartState) → ((pace (Go hart)).clocks t.core).next ≡ Due (t.at + 1 + ((next_event image hart).now.done - hart.done))
   go_own hart =
       let e = (next_event image hart).now.done - hart.done in
-      let none = spends_none in
+      let none = costs_none paced view waits costless old mid p t s it in
       let same : t.at + 1 + total t.price.spent + e ≡ t.at + 1 + e = omega (arith, none) in
       by_test (λ (c : Clock). (woken t.at c).next ≡ Due (t.at + 1 + e)) (t.core == t.core) (its (Go hart) t.core) (late_clocks paced.queues p.clocks t t.core) (eq-eqb t.core t.core refl) (ap Due same)
 
   left_own : ((pace Left).clocks t.core).next ≡ Due (t.at + 1)
   left_own =
-      let none = spends_none in
+      let none = costs_none paced view waits costless old mid p t s it in
       let same : t.at + 1 + total t.price.spent ≡ t.at + 1 = omega (arith, none) in
       by_test (λ (c : Clock). (woken t.at c).next ≡ Due (t.at + 1)) (t.core == t.core) (its Left t.core) (late_clocks paced.queues p.clocks t t.core) (eq-eqb t.core t.core refl) (ap Due same)
 

@@ -9,8 +9,7 @@ use Rattle.rv32_exec.specs.NextEvent.{next_event}
 use Rattle.spec_history.specs.FlatState.{CoreState, FlatState}
 use Rattle.dependences.specs.Conflict.{IsInOrder, memory_before}
 use Rattle.dependences.specs.Kept.{AreAll}
-use Rattle.dependences.specs.Lengths.{Lasts}
-use Rattle.dependences.proofs.Following.{to_event}
+use Rattle.dependences.proofs.Paths.{to_event}
 use Rattle.dependences.proofs.Paths.{IsAt}
 use Rattle.even_speed.specs.declared.clock.Clock.{Clock}
 use Rattle.even_speed.specs.declared.clock.Next.{Next}
@@ -18,6 +17,7 @@ use Rattle.even_speed.specs.declared.clock.Next.TheVariants.{Due, Waits, Gone}
 use Rattle.limits.specs.declared.limit.Waits.TheVariants.{Commit}
 use Rattle.limits.specs.Limits.{IsTiming, Timing}
 use Rattle.limits.proofs.Stopping.{before_stop, lasts_some}
+use Rattle.limits.proofs.Least.{climbs}
 
 -- ---- the plan
 
@@ -87,14 +87,6 @@ module _ (image : LoadedImage) (cores epochs : ℕ) (t : Timing) (all : AreAll i
       let same : d + (e - d) ≡ e = omega (arith, low) in
       let rise = rises d (e - d) (omega (arith, low, below)) in let is = ap t.commit same in omega (arith, rise, is)
 
-  -- so do places
-  places_from : (e length place n : ℕ) → e < epochs → Lasts image e length → place + n ≤ length → t.at e place + n ≤ t.at e (place + n)
-  places_from e length place zero below lasts most = let same : place + 0 ≡ place = omega arith in let is = ap (t.at e) same in omega (arith, is)
-  places_from e length place (suc n) below lasts most =
-      let before = places_from e length place n below lasts (omega (arith, most)) in
-      let more = y.next e (place + n) length below lasts (omega (arith, most)) in
-      let same : place + suc n ≡ place + n + 1 = omega arith in let is = ap (t.at e) same in omega (arith, before, more, is)
-
   -- the next event of a path is no later than its end
   event_within : (e : ℕ) (h : HartState) (own : ℕ → Option ℕ) → IsAt image e (memory_before image e) h own → (next_event image h).now.done ≤ (lasts_some image e).0
   event_within e h own at =
@@ -108,7 +100,7 @@ module _ (image : LoadedImage) (cores epochs : ℕ) (t : Timing) (all : AreAll i
       let last = (lasts_some image e).1 in
       let within = event_within e h own at in
       let sum : place + ((next_event image h).now.done - place) ≡ (next_event image h).now.done = omega (arith, from) in
-      let rise = places_from e (lasts_some image e).0 place ((next_event image h).now.done - place) below last (omega (arith, from, within)) in
+      let rise = climbs image Commit cores epochs t y e (lasts_some image e).0 place ((next_event image h).now.done - place) below last (omega (arith, from, within)) in
       let is = ap (t.at e) sum in omega (arith, rise, is)
 
   pub event_commits : (e : ℕ) (h : HartState) (own : ℕ → Option ℕ) → e < epochs → IsAt image e (memory_before image e) h own
@@ -118,7 +110,7 @@ module _ (image : LoadedImage) (cores epochs : ℕ) (t : Timing) (all : AreAll i
       let within = event_within e h own at in
       let n = (next_event image h).now.done in
       let sum : n + ((lasts_some image e).0 - n) ≡ (lasts_some image e).0 = omega (arith, within) in
-      let rise = places_from e (lasts_some image e).0 n ((lasts_some image e).0 - n) below last (omega (arith, within)) in
+      let rise = climbs image Commit cores epochs t y e (lasts_some image e).0 n ((lasts_some image e).0 - n) below last (omega (arith, within)) in
       let is = ap (t.at e) sum in
       let ends = y.ends e (lasts_some image e).0 below last in omega (arith, rise, is, ends)
 
@@ -139,7 +131,7 @@ module _ (image : LoadedImage) (cores epochs : ℕ) (t : Timing) (all : AreAll i
       let from = begins_within e step below by in
       let first = y.first e below in
       let last = (lasts_some image e).1 in
-      let rise = places_from e (lasts_some image e).0 0 (lasts_some image e).0 below last (omega arith) in
+      let rise = climbs image Commit cores epochs t y e (lasts_some image e).0 0 (lasts_some image e).0 below last (omega arith) in
       let ends = y.ends e (lasts_some image e).0 below last in
       let same : 0 + (lasts_some image e).0 ≡ (lasts_some image e).0 = omega arith in
       let is = ap (t.at e) same in omega (arith, from, first, rise, ends, is)

@@ -1,7 +1,6 @@
 -- A core publishes, and then accesses memory in the same turn.
-use Rattle.std.proofs.Common.{◌≡◌, ◌≢◌, ℕ, ◌+◌, ◌-◌, ◌<◌, ◌≤◌, ◌==◌, ◌&&◌, not, Bool, true, false, cond, List, ◌++◌, length, Option, Some, None, if◌then◌else◌, refl, sym, ap, subst, ◌∙◌, inl, inr, true≢false, arith, eq-eqb, ne_eqb}
+use Rattle.std.proofs.Common.{◌≡◌, ◌≢◌, ℕ, ◌+◌, ◌-◌, ◌<◌, ◌≤◌, ◌==◌, ◌&&◌, not, Bool, true, false, List, ◌++◌, length, Some, None, if◌then◌else◌, refl, sym, ap, subst, ◌∙◌, inl, inr, true≢false, arith, eq-eqb, ne_eqb}
 use Rattle.std.proofs.Math.Path.{fun_ext}
-use Rattle.std.proofs.lemmas.Bool.{cases_eq}
 use Rattle.std.proofs.lemmas.List.Elements.{All-weaker}
 use Rattle.memory_bytes.specs.Bytes.{number_at}
 use Rattle.memory_bytes.specs.Maps.{nothing, over, stored}
@@ -11,7 +10,7 @@ use Rattle.rv32_exec.specs.NextEvent.{next_event}
 use Rattle.spec_history.specs.declared.entry.Entry.{Entry}
 use Rattle.spec_history.specs.declared.entry.What.{What}
 use Rattle.spec_history.specs.declared.entry.What.TheVariants as what
-use Rattle.spec_history.specs.Effect.{after_publish, by_core, effect_on, with_core}
+use Rattle.spec_history.specs.Effect.{after_publish, effect_on}
 use Rattle.spec_history.specs.FlatState.{CoreState, FlatState}
 use Rattle.spec_history.specs.Refusal.{refusal_of}
 use Rattle.spec_history.specs.Replay.{replay, replay_from}
@@ -24,11 +23,12 @@ use Rattle.spec_history.proofs.Searches.Missing.{misses_by}
 use Rattle.violations.specs.View.{IsSettled, StoreView, attempt_of, epoch_of, is_accessed, line_of}
 use Rattle.violations.specs.Rule.{Guards, HurtsLater, IsCrowded, IsSameCore, LoadsStraight, OwnsIn, Publishes, StoresStraight}
 use Rattle.homefree.specs.Agrees.{Agrees, AgreesCore}
-use Rattle.homefree.specs.Hurts.{entry, entry_for_each, epoch_on, hurt_if, hurts, with_hurts}
+use Rattle.homefree.specs.Hurts.{entry, entry_for_each, epoch_on, hurts, with_hurts}
 use Rattle.homefree.specs.Turned.{loaded_hart, publishes_unless, stored_hart}
 use Rattle.homefree.proofs.State.Ends as ending
 use Rattle.homefree.proofs.State.Legality.{by_it}
 use Rattle.homefree.proofs.State.Others.{agrees_with, runs_on, same_at}
+use Rattle.homefree.proofs.Cases.GoingStraight.{published_epoch}
 use Rattle.limits.specs.declared.limit.Waits.{Waits}
 use Rattle.limits.specs.declared.limit.Waits.TheVariants.{Store}
 use Rattle.limits.proofs.Marks.{IsTimedIn, IsUnder, Marks}
@@ -169,14 +169,6 @@ module _ (v : StoreView) (core : ℕ) where
   }
 
 -- ---- the publish
-
-published_epoch : (hurt : ℕ → Bool) (cores : ℕ → Option CoreState) (core : ℕ) (c new : CoreState) → cores core ≡ Some c → new.epoch ≡ c.epoch
-    → (k : ℕ) → epoch_on (with_core (λ j. hurt_if (hurt j) (cores j)) core (Some new)) k ≡ epoch_on cores k
-published_epoch hurt cores core c new at same k = elim (cases_eq k core) [
-  | inl e ↦ ap (λ b. by_core (cond b (Some new) (hurt_if (hurt k) (cores k))) 0 (λ x. x.epoch)) (eq-eqb k core e)
-      ∙ (same ∙ ap (λ o. by_core o 0 (λ x. x.epoch)) (sym (ap cores e ∙ at)))
-  | inr other ↦ ap (λ b. by_core (cond b (Some new) (hurt_if (hurt k) (cores k))) 0 (λ x. x.epoch)) (ne_eqb k core other) ∙ ending.hurt_epoch (hurt k) (cores k)
-]
 
 nothing_read : (a byte : ℕ) → nothing a ≡ Some byte → ⊥
 nothing_read a byte read = cc

@@ -2,7 +2,7 @@
 -- is hurt, and each is on the path of its epoch in order.
 use Rattle.std.proofs.Common.{◌≡◌, ◌≢◌, ℕ, ◌+◌, ◌<◌, ◌≤◌, ◌&&◌, nat_le, nat_lt, is_none, Bool, true, false, cond, is_some, List, [], ◌++◌, slice_index, Option, Some, None, if◌then◌else◌, refl, sym, ap, subst, ◌∙◌, inl, inr, true≢false, arith, eq-eqb}
 use Rattle.std.proofs.Math.Path.{fun_ext}
-use Rattle.std.proofs.lemmas.Bool.{cases_Bool, cases_eq, cond-false}
+use Rattle.std.proofs.lemmas.Bool.{cases_Bool, cases_eq, cond-false, leb-true, ltb-true}
 use Rattle.std.proofs.lemmas.Option.{same_Some}
 use Rattle.rv32_exec.specs.declared.stop.Stop.{Stop}
 use Rattle.rv32_exec.specs.declared.stop.Stop.TheVariants as stop
@@ -10,6 +10,7 @@ use Rattle.rv32_exec.specs.declared.sequential.End.TheVariants as end
 use Rattle.memory_bytes.specs.Bytes.{number_at}
 use Rattle.memory_bytes.specs.Maps.{first_of, joined, over, read_outside, stored}
 use Rattle.memory_bytes.proofs.Bytes.{number_at_same}
+use Rattle.memory_bytes.proofs.SmallFacts.{none_is, seen_by}
 use Rattle.rv32_image.specs.Image.{IsImage, LoadedImage}
 use Rattle.rv32_image.proofs.SmallFacts.{none_and_some, value_of}
 use Rattle.rv32_exec.specs.Hart.{HartState, start_of, stepped}
@@ -40,8 +41,7 @@ use Rattle.dependences.proofs.Starting.{IsFresh, fresh}
 use Rattle.even_speed.specs.Held.{Holding, is_held}
 use Rattle.even_speed.proofs.Moving.{hurts_calm, restarts_in}
 use Rattle.limits.specs.HeldBound.{HoldsInOrder}
-use Rattle.limits.proofs.Unstored.{IsStored, IsUnstored, all_long, at_least, less_than, none_is, reads_unstored, unstored_same}
-use Rattle.limits.proofs.SmallFacts.{seen_by}
+use Rattle.limits.proofs.Unstored.{IsStored, IsUnstored, all_long, reads_unstored, unstored_same}
 
 -- a core that runs an epoch
 pub record IsQuiet (image : LoadedImage) (homefree : ℕ) (c : CoreState) : Type 0 where
@@ -123,7 +123,7 @@ read_parts : (address width a byte : ℕ) (own : ℕ → Option ℕ) (committed 
     → (address ≤ a) × (a < address + width) × (own a ≡ None)
 read_parts address width a byte own committed is =
     let parts = parts_by (nat_le address a) (nat_lt a (address + width)) (is_none (own a)) (committed a) byte is in
-    (at_least address a parts.0, less_than a (address + width) parts.1, none_is (own a) parts.2)
+    (leb-true address a parts.0, ltb-true a (address + width) parts.1, none_is (own a) parts.2)
 
 -- ---- one core changed
 

@@ -25,6 +25,7 @@ use Rattle.homefree.specs.Driven.{Driver, TurnedWith, arrival_of, with_held}
 use Rattle.homefree.specs.InStep.{InStep}
 use Rattle.homefree.specs.Turned.{Acting, Turned, turn_at}
 use Rattle.homefree.specs.Turned as turn
+use Rattle.homefree.proofs.SmallFacts.{held_here}
 use Rattle.even_speed.specs.declared.clocks.Turn.{Turn}
 use Rattle.even_speed.specs.declared.run.Ran.{Ran}
 use Rattle.even_speed.specs.Clocks.{IsFirst, due_of, dues, late_clocks}
@@ -84,9 +85,6 @@ no_counts_none = refl
 free_by : (b : Bool) (o : Option ℕ) (x : ℕ) → (if b then None else o) ≡ Some x → b ≡ false
 free_by true o x is = absurd cc
 free_by false o x is = refl
-
-with_here : (held : ℕ → Option HartState) (core : ℕ) (now : Option HartState) → with_held held core now core ≡ now
-with_here held core now = ap (λ (b : Bool). if b then now else held core) (eq-eqb core core refl)
 
 with_other : (held : ℕ → Option HartState) (core : ℕ) (now : Option HartState) (k : ℕ) → k ≢ core → with_held held core now k ≡ held k
 with_other held core now k other = ap (λ (b : Bool). if b then now else held k) (ne_eqb k core other)
@@ -188,7 +186,7 @@ module _ {S : Type 0} (makes : S → Call → S → Type 0) (view : S → StoreV
     hands_go hart u now runs hart_is others k c at = elim (cases_eq k t.core) [
       | inl e ↦
           (let same = one_value (u.cores t.core) now c runs (ap u.cores (sym e) ∙ at) in
-          ap (with_held p.held t.core (Some hart)) e ∙ (with_here p.held t.core (Some hart) ∙ (ap Some (sym hart_is) ∙ ap (λ (d : CoreState). Some d.hart) same)))
+          ap (with_held p.held t.core (Some hart)) e ∙ (held_here p.held t.core (Some hart) ∙ (ap Some (sym hart_is) ∙ ap (λ (d : CoreState). Some d.hart) same)))
       | inr other ↦ with_other p.held t.core (Some hart) k other ∙ x.hands k c (sym (others k other) ∙ at)
     ]
 
@@ -221,7 +219,7 @@ module _ {S : Type 0} (makes : S → Call → S → Type 0) (view : S → StoreV
           agrees = subst (Agrees s) (sym g.1) (agrees_same s (view old.book.store) a.reserved a.same x.agrees);
           quiet = x.quiet;
           hands = λ k c at. elim (cases_eq k t.core) [
-            | inl same ↦ ap (with_held p.held t.core (p.held t.core)) same ∙ (with_here p.held t.core (p.held t.core) ∙ (ap p.held (sym same) ∙ x.hands k c at))
+            | inl same ↦ ap (with_held p.held t.core (p.held t.core)) same ∙ (held_here p.held t.core (p.held t.core) ∙ (ap p.held (sym same) ∙ x.hands k c at))
             | inr other ↦ with_other p.held t.core (p.held t.core) k other ∙ x.hands k c at
           ];
         }) (keeping.waits_on old mid p t s cause (its answer a calm) a.may.going extra g.2) more

@@ -26,6 +26,7 @@ use Rattle.homefree.specs.Driven.{arrival_of}
 use Rattle.homefree.specs.Hurts.{cancels, entry, entry_for_each, epoch_on, is_other}
 use Rattle.homefree.specs.Turned.{Acts, Follows, IsEnd, IsStale, Outcome, Turn, does, left_or_over, wait_at}
 use Rattle.homefree.specs.Turned as turn
+use Rattle.homefree.proofs.SmallFacts.{wait_never}
 use Rattle.dependences.specs.Conflict.{IsInOrder, memory_before}
 use Rattle.dependences.specs.Kept.{AreAll}
 use Rattle.dependences.proofs.Ending.{all_by_last}
@@ -83,12 +84,6 @@ ComesTo image cores core s v w entries Left = (u : FlatState) × After image cor
 ComesTo image cores core s v w entries (Over end) = Ended image s core entries
 ComesTo image cores core s v w entries (Stopped cause) = Unit
 
-wait_never : (core : ℕ) (at : Stop) (cause : WaitCause) → wait_at never_waits core at ≡ Some cause → ⊥
-wait_never core (stop.Load address width signed rd) cause is = absurd cc
-wait_never core (stop.Store address width value) cause is = absurd cc
-wait_never core stop.Ended cause is = absurd cc
-wait_never core (stop.Fault cause' pc) cause is = absurd cc
-
 stale_not : (image : LoadedImage) (next : Option Arrival) (hart : HartState) → next ≡ Some (arrival_of image hart) → IsStale next hart → ⊥
 stale_not image next hart is stale = (subst (λ o. IsStale o hart) is stale) refl
 
@@ -103,21 +98,18 @@ module _ (t : Turn) (holds : Holding) (h : HoldsInOrder t.image holds) (v w : St
   abbrev To : Outcome → Type 0
   To o = ComesTo t.image t.cores t.core s v w o.entries o.answer
 
-  so : (out o : Outcome) → out ≡ o → To o → To out
-  so out o same comes = subst To (sym same) comes
-
   started : (out : Outcome) → turn.IsStart t v w out → To out
-  started out l = so out _ l.out_is
+  started out l = subst To (sym l.out_is)
       (let y = quiet.begins t.image t.cores t.core s v w history is reached still agrees calm settled l.idle there l.left l.store in (y.0, y.1, inl y.2))
 
   loaded : (out : Outcome) → turn.IsLoad t v w out → To out
-  loaded out l = so out _ l.out_is
+  loaded out l = subst To (sym l.out_is)
       (let at = l.comes.is_at.runs in
       let y = quiet.loads t.image t.cores t.core s v w history is reached still agrees calm l.core at holds h (unheld l.core at) uncached
       l.address l.width l.rd l.value l.signed l.hurt l.comes.is_at.event l.store in (y.0, y.1, inr y.2))
 
   saved : (out : Outcome) → turn.IsStore t v w out → To out
-  saved out l = so out _ l.out_is
+  saved out l = subst To (sym l.out_is)
       (let at = l.comes.is_at.runs in
       let y = quiet.saves t.image t.cores t.core s v w history is reached still agrees calm l.core at holds h (unheld l.core at) uncached
       l.address l.width l.value l.hurt l.comes.is_at.event l.store in (y.0, y.1, inr y.2))
@@ -181,13 +173,13 @@ module _ (t : Turn) (holds : Holding) (h : HoldsInOrder t.image holds) (v w : St
   }
 
   committed : (out : Outcome) → turn.IsCommit t v w out → To out
-  committed out l = so out _ l.out_is
+  committed out l = subst To (sym l.out_is)
       (left_by l.hurt l.core l.comes.is_at.runs l.comes.homefree l.comes.is_at.event (end_at t.image (s.homefree + 1)) refl
       (λ none. quiet.commits t.image t.cores t.core s v w history is reached still agrees calm l.core l.comes.is_at.runs l.comes.homefree uncached
       l.between l.hurt l.comes.publishes l.comes.is_at.event l.stays none l.store))
 
   exited : (out : Outcome) → turn.IsExit t v w out → To out
-  exited out l = so out _ l.out_is (record {
+  exited out l = subst To (sym l.out_is) (record {
     was = l.core;
     ran = l.comes.is_at.runs;
     epoch = l.comes.homefree;
@@ -203,7 +195,7 @@ module _ (t : Turn) (holds : Holding) (h : HoldsInOrder t.image holds) (v w : St
   })
 
   faulted : (out : Outcome) → turn.IsFault t v w out → To out
-  faulted out l = so out _ l.out_is (record {
+  faulted out l = subst To (sym l.out_is) (record {
     was = l.core;
     ran = l.comes.is_at.runs;
     epoch = l.comes.homefree;
@@ -227,7 +219,7 @@ module _ (t : Turn) (holds : Holding) (h : HoldsInOrder t.image holds) (v w : St
   follows out (turn.waits l) = absurd (waits_not t.core l.at l.cause l.waits)
   follows out (turn.loads_straight l) = absurd (none_waits t.core l.address l.width (l.waits (speculates l.core l.comes.is_at.runs)))
   follows out (turn.stores_straight l) = absurd (none_waits_store t.core l.address l.width (l.waits (speculates l.core l.comes.is_at.runs)))
-  follows out (turn.is_early l) = so out _ l.out_is
+  follows out (turn.is_early l) = subst To (sym l.out_is)
       (refl, l.store, (l.core, l.comes.runs, subst IsEnd (sym l.comes.event) l.ends, l.later))
   follows out (turn.commits l) = committed out l
   follows out (turn.exits_loop l) = exited out l
@@ -235,7 +227,7 @@ module _ (t : Turn) (holds : Holding) (h : HoldsInOrder t.image holds) (v w : St
 
   pub acts : (out : Outcome) → Acts t v w out → To out
   acts out (turn.starts l) = started out l
-  acts out (turn.finds_none l) = so out _ l.out_is (refl, l.store, (l.idle, l.left))
+  acts out (turn.finds_none l) = subst To (sym l.out_is) (refl, l.store, (l.idle, l.left))
   acts out (turn.restarts l) = absurd (true≢false (sym l.hurt ∙ (calm t.core l.core l.runs).unhurt))
   acts out (turn.is_told l) = absurd (stale_not t.image t.next l.core.hart (hand l.core l.runs) l.stale)
   acts out (turn.follows l) = follows out l

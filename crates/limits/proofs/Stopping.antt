@@ -9,11 +9,7 @@ use Rattle.rv32_exec.proofs.LawsOfRuns.{after_steps-+, epoch_stops, one_step}
 use Rattle.dependences.specs.Paths.{StoresAt}
 use Rattle.dependences.specs.Conflict.{memory_before}
 use Rattle.dependences.specs.Lengths.{Lasts}
-
-stays : (image : LoadedImage) (n : ℕ) (p : Progress) (g : HartState) (after : List ℕ) → HasStopped p → go_on p (after_steps image n) ≡ Runs g after → ⊥
-stays image n (Runs h m) g after stopped is = stopped
-stays image n (Ends h m) g after stopped is = cc
-stays image n (Faults cause pc m) g after stopped is = cc
+use Rattle.dependences.proofs.Following.{stays}
 
 -- what still runs has not come past a stop
 pub before_stop : (image : LoadedImage) (n m : ℕ) (from h g : HartState) (memory memory' after : List ℕ) → after_steps image n from memory ≡ Runs h memory'

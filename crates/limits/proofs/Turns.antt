@@ -60,30 +60,27 @@ module _ (t : Turn) (kind : Waits) (now : ℕ) (m : Marks) (v w : StoreView) (hi
   abbrev To : Outcome → Type 0
   To o = ComesTo t.image kind t.cores now t.core s m v w o.entries o.answer
 
-  so : (out o : Outcome) → out ≡ o → To o → To out
-  so out o same comes = subst To (sym same) comes
-
   started : (out : Outcome) → turn.IsStart t v w out → To out
-  started out l = so out _ l.out_is
+  started out l = subst To (sym l.out_is)
       (act.begins t.image t.cores t.core kind now s m v w history is reached still agrees timed due settled l.idle there l.left l.store)
 
   restarted : (out : Outcome) → turn.IsRestart t v w out → To out
-  restarted out l = so out _ l.out_is
+  restarted out l = subst To (sym l.out_is)
       (act.again t.image t.cores t.core kind now s m v w history is reached still agrees timed due settled l.core l.runs l.hurt l.store)
 
   told : (out : Outcome) → turn.IsTold t v w out → To out
-  told out l = so out _ l.out_is
+  told out l = subst To (sym l.out_is)
       (act.told t.image t.cores t.core kind now s m v w history is reached still agrees timed due ((next_event t.image l.core.hart).now.done - l.core.hart.done) l.store)
 
   -- ---- a core that runs
 
   loaded : (out : Outcome) → turn.IsLoad t v w out → To out
-  loaded out l = so out _ l.out_is
+  loaded out l = subst To (sym l.out_is)
       (act.loads t.image t.cores t.core kind now s m v w history is reached still agrees timed due l.core l.comes.is_at.runs l.comes.is_at.unhurt l.comes.speculates
       l.address l.width l.rd l.value l.signed l.hurt l.comes.is_at.event l.store)
 
   saved : (out : Outcome) → turn.IsStore t v w out → To out
-  saved out l = so out _ l.out_is
+  saved out l = subst To (sym l.out_is)
       (act.saves t.image t.cores t.core kind now s m v w history is reached still agrees timed due l.core l.comes.is_at.runs l.comes.is_at.unhurt l.comes.speculates
       l.address l.width l.value l.hurt l.comes.is_at.event l.store)
 
@@ -101,18 +98,18 @@ module _ (t : Turn) (kind : Waits) (now : ℕ) (m : Marks) (v w : StoreView) (hi
       let c = l.core in
       let at = l.comes.is_at.runs in
       let unhurt = l.comes.is_at.unhurt in
-      so out _ l.out_is (left_by (turn.hurts_of t l.hurt ++ turn.entry_of t what.Commit) (end_at t.image (s.homefree + 1)) refl
+      subst To (sym l.out_is) (left_by (turn.hurts_of t l.hurt ++ turn.entry_of t what.Commit) (end_at t.image (s.homefree + 1)) refl
       (λ none. act.commits t.image t.cores t.core kind now s m v w history is reached still agrees timed due c at unhurt l.comes.homefree l.between l.hurt l.comes.publishes
       l.comes.is_at.event l.stays none l.store)
       (λ last. act.is_over t.image t.cores t.core kind now s m v w history is reached still agrees timed due c at unhurt l.comes.homefree l.comes.is_at.event last))
 
   exited : (out : Outcome) → turn.IsExit t v w out → To out
-  exited out l = so out _ l.out_is
+  exited out l = subst To (sym l.out_is)
       (act.exits_loop t.image t.cores t.core kind now s m v w history is reached still agrees timed due l.core l.comes.is_at.runs l.comes.is_at.unhurt l.comes.homefree
       l.comes.is_at.event l.exits)
 
   faulted : (out : Outcome) → turn.IsFault t v w out → To out
-  faulted out l = so out _ l.out_is
+  faulted out l = subst To (sym l.out_is)
       (act.faults t.image t.cores t.core kind now s m v w history is reached still agrees timed due l.core l.comes.is_at.runs l.comes.is_at.unhurt l.comes.homefree
       l.cause l.pc l.comes.is_at.event)
 
@@ -153,21 +150,21 @@ module _ (t : Turn) (kind : Waits) (now : ℕ) (m : Marks) (v w : StoreView) (hi
   follows : IsFor kind t.waits → (out : Outcome) → GoesOn w out.answer → Follows t v w out → To out
   follows for out kept (turn.loads l) = loaded out l
   follows for out kept (turn.stores l) = saved out l
-  follows for out kept (turn.waits l) = so out _ l.out_is (refl, l.store)
-  follows for out kept (turn.loads_straight l) = so out _ l.out_is
+  follows for out kept (turn.waits l) = subst To (sym l.out_is) (refl, l.store)
+  follows for out kept (turn.loads_straight l) = subst To (sym l.out_is)
       (load_by (settled_by out _ _ l.out_is kept) for l.core l.comes.is_at.runs l.comes.is_at.unhurt l.comes.homefree l.address l.width l.rd l.value l.signed l.comes.is_at.event
       l.between l.first l.hurt l.core.straight refl l.comes.publishes l.waits l.store)
-  follows for out kept (turn.stores_straight l) = so out _ l.out_is
+  follows for out kept (turn.stores_straight l) = subst To (sym l.out_is)
       (store_by (settled_by out _ _ l.out_is kept) for l.core l.comes.is_at.runs l.comes.is_at.unhurt l.comes.homefree l.address l.width l.value l.comes.is_at.event
       l.between l.first l.hurt l.core.straight refl l.comes.publishes l.waits l.store)
-  follows for out kept (turn.is_early l) = so out _ l.out_is (refl, l.store)
+  follows for out kept (turn.is_early l) = subst To (sym l.out_is) (refl, l.store)
   follows for out kept (turn.commits l) = committed out l
   follows for out kept (turn.exits_loop l) = exited out l
   follows for out kept (turn.faults l) = faulted out l
 
   pub acts : IsFor kind t.waits → (out : Outcome) → GoesOn w out.answer → Acts t v w out → To out
   acts for out kept (turn.starts l) = started out l
-  acts for out kept (turn.finds_none l) = so out _ l.out_is (refl, l.store)
+  acts for out kept (turn.finds_none l) = subst To (sym l.out_is) (refl, l.store)
   acts for out kept (turn.restarts l) = restarted out l
   acts for out kept (turn.is_told l) = told out l
   acts for out kept (turn.follows l) = follows for out kept l

@@ -1,7 +1,6 @@
 -- What no epoch stores in order from one epoch on is the same before a later one; and a core that isn't held reads nothing else.
-use Rattle.std.proofs.Common.{◌≡◌, ◌⊎◌, ℕ, zero, suc, ◌+◌, ◌-◌, ◌<◌, ◌≤◌, ◌==◌, ◌&&◌, not, nat_le, nat_lt, is_none, Bool, true, false, length, slice_index, Option, Some, None, refl, sym, ap, subst, ◌∙◌, inl, inr, true≢false, arith, add-one, eq-eqb, ne_eqb, le-leb}
+use Rattle.std.proofs.Common.{◌≡◌, ◌⊎◌, ℕ, zero, suc, ◌+◌, ◌-◌, ◌<◌, ◌≤◌, ◌==◌, ◌&&◌, not, nat_le, is_none, Bool, true, false, length, slice_index, Option, Some, None, refl, sym, ap, subst, ◌∙◌, inl, inr, true≢false, arith, add-one, eq-eqb, ne_eqb, le-leb}
 use Rattle.std.proofs.lemmas.Bool.{cases_eq, or_right}
-use Rattle.std.proofs.lemmas.Bool.Decides.{nat_tests}
 use Rattle.std.proofs.lemmas.List.Folds.{list_any_at}
 use Rattle.rv32_exec.specs.declared.stop.Stop.TheVariants as stop
 use Rattle.rv32_image.specs.Image.{IsImage, LoadedImage}
@@ -59,16 +58,6 @@ unstored_same image h (suc e) a is low most order none = elim (cases_eq h (suc e
 pub both : (a b : Bool) → a ≡ true → b ≡ true → (a && b) ≡ true
 both true b first second = second
 both false b first second = absurd cc
-
-pub at_least : (x y : ℕ) → nat_le x y ≡ true → x ≤ y
-at_least x y is = grind (arith, nat_tests)
-
-pub less_than : (x y : ℕ) → nat_lt x y ≡ true → x < y
-less_than x y is = grind (arith, nat_tests)
-
-pub none_is : (o : Option ℕ) → is_none o ≡ true → o ≡ None
-none_is None is = refl
-none_is (Some byte) is = absurd cc
 
 -- ---- a core that isn't held
 

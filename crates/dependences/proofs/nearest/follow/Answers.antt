@@ -1,15 +1,22 @@
-use Rattle.std.proofs.Common.{◌≡◌, sym, ap, ◌∙◌, arith}
+use Rattle.std.proofs.Common.{◌≡◌, ℕ, List, Option, sym, ap, ◌∙◌, arith}
 use Rattle.std.proofs.lemmas.Bool.{not-false, not-true}
+use Rattle.rv32_image.specs.Image.{LoadedImage}
 use Rattle.rv32_exec.specs.declared.stop.Stop.TheVariants as stop
-use Rattle.rv32_exec.specs.Hart.{stepped}
+use Rattle.rv32_exec.specs.Hart.{HartState, stepped}
 use Rattle.rv32_exec.specs.Execute.{IsAccess, IsStore}
 use Rattle.rv32_exec.specs.NextEvent.{next_event}
 use Rattle.rv32_exec.specs.Arrival.{after_number}
 use Rattle.rv32_exec.specs.Sequential.{exits}
 use Rattle.rv32_exec.proofs.Accesses.{stop_of_event}
 use Rattle.spec_history.proofs.OneEntry.Accesses.{load_counts}
-use Rattle.dependences.proofs.Following.{ended_exits, ended_goes_on, faulted, following_load, following_start, following_store, kept_after, runs_in_order, writers_below}
+use Rattle.dependences.proofs.Following.{Following, following_load, following_start, following_store, kept_after, runs_in_order, writers_below}
+use Rattle.dependences.proofs.Outside.{OnPath, done_before, ends_so, no_exit, no_fault}
+use Rattle.dependences.specs.Conflict.{memory_before}
 use Rattle.dependences.proofs.nearest.follow.Goals as goal
+
+path : (image : LoadedImage) (epoch : ℕ) (memory writers : List ℕ) (h : HartState) (nearest : Option ℕ) → Following image epoch memory writers h nearest
+    → OnPath image epoch (memory_before image epoch) memory h
+path image epoch memory writers h nearest x = record { own = x.own; at = x.at; is = x.is }
 
 pub accesses-init : goal.accesses-init
 accesses-init c = record {
@@ -63,8 +70,9 @@ returns-in-Ended-clause-goes_on c goes =
     let h = c.accesses.hart in
     let is : (next_event image h).at ≡ stop.Ended = sym c.advance-arrived.ensures.at ∙ (sym c.at.ensures.at ∙ c.in-Ended.is) in
     let exit : c.exits-goes_on.result ≡ exits image (next_event image h).now = c.exits-goes_on.ensures ∙ ap (exits image) (c.now.ensures ∙ c.advance-arrived.ensures.now) in
-    ended_goes_on image c.args.epoch c.args.memory.now c.accesses.memory c.accesses.writers h c.accesses.nearest c.accesses.invariant.following c.requires.before c.requires.run.within
-    is (sym exit ∙ not-true c.exits-goes_on.result goes)
+    ends_so image c.args.epoch (memory_before image c.args.epoch) c.accesses.memory h
+    (path image c.args.epoch c.accesses.memory c.accesses.writers h c.accesses.nearest c.accesses.invariant.following)
+    (done_before image c.args.epoch c.args.memory.now c.requires.before) is (sym exit ∙ not-true c.exits-goes_on.result goes)
 
 pub returns-in-Ended-clause-ends : goal.returns-in-Ended-clause-ends
 returns-in-Ended-clause-ends c ends order =
@@ -72,16 +80,18 @@ returns-in-Ended-clause-ends c ends order =
     let h = c.accesses.hart in
     let is : (next_event image h).at ≡ stop.Ended = sym c.advance-arrived.ensures.at ∙ (sym c.at.ensures.at ∙ c.in-Ended.is) in
     let exit : c.exits-goes_on.result ≡ exits image (next_event image h).now = c.exits-goes_on.ensures ∙ ap (exits image) (c.now.ensures ∙ c.advance-arrived.ensures.now) in
-    ended_exits image c.args.epoch c.args.memory.now c.accesses.memory c.accesses.writers h c.accesses.nearest c.accesses.invariant.following c.requires.before c.requires.run.within
-    is (sym exit ∙ not-false c.exits-goes_on.result ends) order
+    no_exit image c.args.epoch (memory_before image c.args.epoch) c.accesses.memory h
+    (path image c.args.epoch c.accesses.memory c.accesses.writers h c.accesses.nearest c.accesses.invariant.following)
+    (done_before image c.args.epoch c.args.memory.now c.requires.before) is (sym exit ∙ not-false c.exits-goes_on.result ends) order
 
 pub returns-in-Fault-clause-ends : goal.returns-in-Fault-clause-ends
 returns-in-Fault-clause-ends c ends order =
     let image = c.args.image.now in
     let h = c.accesses.hart in
     let is : (next_event image h).at ≡ stop.Fault c.in-Fault.cause c.in-Fault.pc = sym c.advance-arrived.ensures.at ∙ (sym c.at.ensures.at ∙ c.in-Fault.is) in
-    faulted image c.args.epoch c.args.memory.now c.accesses.memory c.accesses.writers h c.accesses.nearest c.accesses.invariant.following c.requires.before c.requires.run.within
-    c.in-Fault.cause c.in-Fault.pc is order
+    no_fault image c.args.epoch (memory_before image c.args.epoch) c.accesses.memory h
+    (path image c.args.epoch c.accesses.memory c.accesses.writers h c.accesses.nearest c.accesses.invariant.following)
+    (done_before image c.args.epoch c.args.memory.now c.requires.before) c.in-Fault.cause c.in-Fault.pc is order
 
 pub returns-in-Fault-clause-kept : goal.returns-in-Fault-clause-kept
 returns-in-Fault-clause-kept c =
