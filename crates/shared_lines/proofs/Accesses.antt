@@ -1,8 +1,9 @@
 -- What the speculative accesses of a core make of a bus, where they can violate nobody.
-use Rattle.std.proofs.Common.{◌≡◌, ◌≢◌, ℕ, ◌==◌, ◌||◌, ◌&&◌, not, nat_lt, Bool, true, false, cond, Option, refl, sym, ap, subst, ◌∙◌, inl, inr, arith}
+use Rattle.std.proofs.Common.{◌≡◌, ◌≢◌, ℕ, ◌==◌, ◌||◌, nat_lt, Bool, true, false, cond, Option, refl, sym, ap, subst, ◌∙◌, inl, inr, arith}
 use Rattle.std.proofs.lemmas.Bool.{both_ways, cases_Bool}
 use Rattle.std.proofs.lemmas.Bool.Decides.{nat_tests}
 use Rattle.memory_bytes.specs.Bytes.{IsWidth}
+use Rattle.memory_bytes.proofs.SmallFacts.{none_enters, or_not}
 use Rattle.spec_states.specs.declared.line.LineState.{LineState}
 use Rattle.spec_states.specs.declared.line.Marks.{Marks}
 use Rattle.spec_states.specs.declared.next.Next.{Next}
@@ -140,17 +141,11 @@ module _ (R W H : ℕ → Type 0) (core : CoreState) (h : IsTidy R W H core) (ad
         limit = entry-limit next.enters addr core.buffer;
       }
 
-  same_required : (enters after before : Bool) → enters ≡ (after && not before) → enters ≡ false → (before ≡ true → after ≡ true) → after ≡ before
-  same_required enters true true e f up = refl
-  same_required enters true false e f up = sym e ∙ f
-  same_required enters false true e f up = up refl
-  same_required enters false false e f up = refl
-
   -- it stays where it was, and in the buffer or out of it
   pub keeps-stays : (cell : ℕ → ℕ) → next.enters ≡ false → Stays R W H core (with_copy addr (made next.state next.marks cell) core)
   keeps-stays cell none = record {
     tidy = with_copy-tidy R W H core h addr (made next.state next.marks cell) (made-fit (R addr) (W addr) next.state next.marks cell change.fit)
-        (made-required next.state next.marks cell ∙ same_required next.enters _ _ change.enters none change.stays_required)
+        (made-required next.state next.marks cell ∙ none_enters next.enters _ _ change.enters none change.stays_required)
         (λ quiet. ap is_speculative (made-state next.state next.marks cell) ∙ change.unmarked quiet);
     masks = with_copy-masks core addr (made next.state next.marks cell) (λ x had. let kept = mask x had in made-mask next.state next.marks cell x kept.0 kept.1);
     attempt = refl;
@@ -179,9 +174,6 @@ module _ (R W H : ℕ → Type 0) (core : CoreState) (h : IsTidy R W H core) (ad
     | inr out ↦ from_copy (copy_of loads.state loads.marks no_bytes) no_bytes (own_load-filled state marks offset width alone wide out no_bytes)
   ]
 
-  either : (was all : Bool) → (was || not all) ≡ true → was ≡ false → all ≡ false
-  either was all is e = grind (arith, nat_tests)
-
   pub load-change : (has_all (marks_of state marks).bytes offset width ≡ false → R addr) → IsChange (R addr) (W addr) (H addr) core.attempt (core.copy addr) loads
   load-change reads =
       let row = own_load-takes_hold state marks offset width alone in
@@ -192,7 +184,7 @@ module _ (R W H : ℕ → Type 0) (core : CoreState) (h : IsTidy R W H core) (ad
           right = load-right;
           read = λ is. elim (cases_Bool (marks_of state marks).loaded) [
             | inl was ↦ (h.fit addr).read (carried-loaded state marks was)
-            | inr out ↦ reads (either (marks_of state marks).loaded (has_all (marks_of state marks).bytes offset width) (subst (λ (m : Marks). m.loaded ≡ true) after is) out)
+            | inr out ↦ reads (or_not (marks_of state marks).loaded (has_all (marks_of state marks).bytes offset width) (subst (λ (m : Marks). m.loaded ≡ true) after is) out)
           ];
           written = λ is. (h.fit addr).written (carried-written state marks (subst (λ (m : Marks). is_written m ≡ true) after is)).1;
         };

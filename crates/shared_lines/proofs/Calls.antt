@@ -1,7 +1,7 @@
 -- The calls of the caches that turns make: what each makes of the bus.
-use Rattle.std.proofs.Common.{◌≡◌, ◌≢◌, ◌⊎◌, ℕ, ◌+◌, ◌%◌, ◌<◌, ◌≤◌, min, Bool, true, false, List, IfSome, Option, Some, None, option_map, slice_get, refl, sym, ap, subst, ◌∙◌, inl, inr, arith}
+use Rattle.std.proofs.Common.{◌≡◌, ◌≢◌, ◌⊎◌, ℕ, ◌<◌, min, Bool, true, false, List, IfSome, Option, Some, None, option_map, slice_get, refl, sym, ap, subst, ◌∙◌, inl, inr, arith}
 use Rattle.std.proofs.lemmas.Option.{same_Some}
-use Rattle.memory_bytes.specs.Bytes.{IsWidth}
+use Rattle.memory_bytes.proofs.SmallFacts.{starts_inside}
 use Rattle.rv32_image.specs.Image.{LoadedImage}
 use Rattle.rv32_image.specs.Machine.{IsMachineFor}
 use Rattle.rv32_image.specs.Places.{of_places, place}
@@ -45,7 +45,7 @@ use Rattle.shared_lines.proofs.Accesses.{Goes, MayTell, attempts, limits, epoch_
 use Rattle.shared_lines.proofs.Speculating.{load-goes, store-goes, store-has}
 use Rattle.shared_lines.proofs.Straights.{Sets, publish-sets, straight_load-goes, straight_store-goes}
 use Rattle.shared_lines.proofs.Lines.{Reads, Shares, Writes, share_read, share_written}
-use Rattle.shared_lines.proofs.Epochs.{IsSeen, attempt_by, beside_of, line_at, load_access, load_reads, load_touches, may_tell, offset_at, quiet_so, runs_so, some_byte, speculates_so, store_access, store_stores}
+use Rattle.shared_lines.proofs.Epochs.{IsSeen, attempt_by, beside_of, line_at, load_access, load_reads, load_touches, may_tell, offset_at, quiet_so, runs_so, speculates_so, store_access, store_stores}
 
 -- ---- places
 
@@ -132,15 +132,12 @@ module _ (image : LoadedImage) (cores : ℕ) (machine : IsMachineFor image.size 
       subst (λ (n : ℕ). P (line_of n (place image.machine image.size address)) (offset_of n (place image.machine image.size address))) seen.length
       (subst (λ (p : ℕ). P (line_of (bus v).line_length p) (offset_of (bus v).line_length p)) (place_is image v address places below) is)
 
-  inside : (address width : ℕ) → IsWidth width → address % width ≡ 0 → address + width ≤ image.size → address < image.size
-  inside address width wide aligned within = let some = some_byte image machine address width wide aligned in omega (arith, some, within)
-
   module _ (address width : ℕ) (signed : Bool) (rd : ℕ) (is : (next_event image c.hart).at ≡ stop.Load address width signed rd) where
     access : IsAccess image (next_event image c.hart).now address width
     access = load_access image c.hart address width signed rd is
 
     below : address < image.size
-    below = inside address width access.wide access.aligned access.within
+    below = starts_inside address width image.size access.wide access.within
 
     tells_load : MayTell R W H (attempts (bus v)) (limits (bus v)) core Load (line_at image address) image.machine.buffer_lines
     tells_load = may_tell image cores machine s going window orderly (bus v) seen free room_left core c at (line_at image address) (line_number image address) refl Load
@@ -168,7 +165,7 @@ module _ (image : LoadedImage) (cores : ℕ) (machine : IsMachineFor image.size 
     store_in = store_access image c.hart address width value is
 
     store_below : address < image.size
-    store_below = inside address width store_in.wide store_in.aligned store_in.within
+    store_below = starts_inside address width image.size store_in.wide store_in.within
 
     stores_line : StoresIn image c.epoch (path_memory image cores c.epoch) (line_number image address)
     stores_line = store_stores image cores machine s going window orderly core c address width value at is

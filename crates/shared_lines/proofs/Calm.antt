@@ -1,35 +1,28 @@
 -- Histories without a violation, up to any place: the epochs that run are on their paths.
-use Rattle.std.proofs.Common.{◌≡◌, ℕ, zero, suc, ◌<◌, ◌++◌, List, [], ◌∷◌, length, slice_get, take, Bool, true, false, cond, Some, None, refl, ap, subst, ◌∙◌, inl, inr, ◌⊎◌, arith}
+use Rattle.std.proofs.Common.{◌≡◌, ℕ, zero, suc, ◌<◌, ◌++◌, List, [], ◌∷◌, length, slice_get, take, Bool, true, false, cond, Some, None, refl, ap, subst, ◌∙◌, inl, inr, arith}
 use Rattle.std.proofs.lemmas.List.{take_all}
+use Rattle.memory_bytes.proofs.SmallFacts.{in_front}
 use Rattle.rv32_image.specs.Image.{LoadedImage, IsImage}
-use Rattle.rv32_image.proofs.SmallFacts.{one_value}
 use Rattle.spec_history.specs.declared.entry.Entry.{Entry}
-use Rattle.spec_history.specs.declared.entry.What.{What}
-use Rattle.spec_history.specs.declared.entry.What.TheVariants.{Start, Load, Store, Hurt, Cancel, Restart, Publish, Commit, Fault}
+use Rattle.spec_history.specs.declared.entry.What.TheVariants.{Start, Cancel}
 use Rattle.spec_history.specs.FlatState.{FlatState, first_state}
 use Rattle.spec_history.specs.Effect.{effect}
 use Rattle.spec_history.specs.Refusal.{refusal_of}
-use Rattle.spec_history.specs.Replay.{replay, replay_from}
+use Rattle.spec_history.specs.Replay.{replay}
 use Rattle.spec_history.specs.Conflict.{is_hurt}
 use Rattle.spec_history.proofs.OneEntry.Going.{Going}
 use Rattle.spec_history.proofs.OneEntry.Legal.{legal_entry}
-use Rattle.spec_history.proofs.Replay.Joining.{splits}
-use Rattle.spec_history.proofs.Replay.Replays.{first_whole, legal_by, one_entry, replayed}
+use Rattle.spec_history.proofs.Replay.Replays.{first_whole, one_entry, replayed}
 use Rattle.homefree.specs.Ending.{NoneStartsAfterCancel}
 use Rattle.homefree.specs.Hurts.{entry_for_each}
 use Rattle.dependences.specs.Conflict.{Conflict}
 use Rattle.dependences.specs.Laws.{NoneIsHurt}
-use Rattle.dependences.proofs.Histories.{along, says}
+use Rattle.dependences.proofs.Histories.{along, says, cancels_none, starts_or}
 use Rattle.dependences.proofs.Keeping.{orderly_still}
 use Rattle.dependences.proofs.Starting.{IsOrderly, first_orderly}
-use Rattle.dependences.proofs.Windows.{AllRun, CancelsNone, IsInWindow, StartsNone, all_run_still, first_all_run, near_of, near_still}
+use Rattle.dependences.proofs.Windows.{AllRun, IsInWindow, all_run_still, first_all_run, near_of, near_still}
 
 -- ---- entries of two histories
-
-pub in_front : (xs ys : List Entry) (place : ℕ) (entry : Entry) → slice_get xs place ≡ Some entry → slice_get (xs ++ ys) place ≡ Some entry
-in_front [] ys place entry at = absurd cc
-in_front (x ∷ xs) ys zero entry at = at
-in_front (x ∷ xs) ys (suc place) entry at = in_front xs ys place entry at
 
 pub starts_before : (history first later : List Entry) → history ≡ first ++ later → NoneStartsAfterCancel history → NoneStartsAfterCancel first
 starts_before history first later is starts place then by core cancelled started at_place at_then =
@@ -56,42 +49,7 @@ unhurt-cancels by these epochs (suc n) =
     last true = unhurt-one (record { by = by; what = Cancel (epochs n) }) refl
     last false = unhurt-none
 
--- ---- one entry more
-
-pub one_more : (image : LoadedImage) (count : ℕ) (history : List Entry) (s t : FlatState) (entry : Entry) → replay image count history ≡ Some s
-    → replay image count (history ++ entry ∷ []) ≡ Some t → effect image s entry ≡ t
-unfolding replay_from
-one_more image count history s t entry before replays =
-    let parts = splits image count history (entry ∷ []) t replays in
-    let same : parts.between ≡ s = one_value (replay image count history) parts.between s parts.first_replays before in
-    by_one s t (subst (λ (x : FlatState). replay_from image count x (entry ∷ []) ≡ Some t) same parts.later_replays)
-  where
-    by_one : (s t : FlatState) → replay_from image count s (entry ∷ []) ≡ Some t → effect image s entry ≡ t
-    by_one s t replays = legal_by image count s entry [] t (refusal_of image count s entry) refl replays (λ legal rest. let same : effect image s entry ≡ t = cc in same)
-
 -- ---- all entries
-
-cancels_none : (what : What) → ((epoch : ℕ) → what ≡ Cancel epoch → ⊥) → CancelsNone what
-cancels_none (Start epoch) other = tt
-cancels_none (Load address width value) other = tt
-cancels_none (Store address width value) other = tt
-cancels_none (Hurt epoch) other = tt
-cancels_none (Cancel epoch) other = other epoch refl
-cancels_none Restart other = tt
-cancels_none Publish other = tt
-cancels_none Commit other = tt
-cancels_none (Fault cause pc) other = tt
-
-starts_or : (what : What) → ((epoch : ℕ) × (what ≡ Start epoch)) ⊎ StartsNone what
-starts_or (Start epoch) = inl (epoch, refl)
-starts_or (Load address width value) = inr tt
-starts_or (Store address width value) = inr tt
-starts_or (Hurt epoch) = inr tt
-starts_or (Cancel epoch) = inr tt
-starts_or Restart = inr tt
-starts_or Publish = inr tt
-starts_or Commit = inr tt
-starts_or (Fault cause pc) = inr tt
 
 abbrev NoneCancelled : List Entry → ℕ → Type 0
 NoneCancelled history n = (place by epoch : ℕ) → place < n → slice_get history place ≡ Some (record { by = by; what = Cancel epoch }) → ⊥

@@ -15,7 +15,7 @@ use Rattle.spec_history.specs.FlatState.{CoreState, FlatState, end_at}
 use Rattle.spec_history.specs.Effect.{after_publish, effect_on}
 use Rattle.spec_history.specs.Replay.{replay}
 use Rattle.spec_history.proofs.OneEntry.Keeping.{with_core_same}
-use Rattle.spec_history.proofs.Replay.Joining.{splits}
+use Rattle.spec_history.proofs.Replay.Joining.{splits, one_more}
 use Rattle.spec_history.proofs.Replay.Replays.{effect-on}
 use Rattle.violations.specs.declared.attempt.Attempt.{Attempt}
 use Rattle.violations.specs.declared.step.WaitCause.{WaitCause}
@@ -42,7 +42,7 @@ use Rattle.shared_lines.proofs.Straights.{Sets, attempt-sets, sets-tidy, sets-th
 use Rattle.shared_lines.proofs.Lines.{Reads, Shares, Writes}
 use Rattle.shared_lines.proofs.Epochs.{IsSeen, attempt_by, quiet_so}
 use Rattle.shared_lines.proofs.Calls.{HasPlaces, load_waits_same, places_after, publish_call, store_waits_same, straight_load_call, straight_store_call}
-use Rattle.shared_lines.proofs.Calm.{IsCalm, one_more, unhurt-append, unhurt-cancels, unhurt-one}
+use Rattle.shared_lines.proofs.Calm.{IsCalm, unhurt-append, unhurt-cancels, unhurt-one}
 use Rattle.shared_lines.proofs.Moves.{AccessMade, CommitMade, Made, access_made, commit_made}
 use Rattle.shared_lines.proofs.Seen.{goes-seen, sets-seen, still-has}
 use Rattle.shared_lines.proofs.Turning.{Keeps, calm_at, hurts_none, keeps_one, keeps_so, none_hurt, publishing_attempt, publishing_none}

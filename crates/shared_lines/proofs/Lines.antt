@@ -1,5 +1,5 @@
 -- The lines of epochs, by their addresses on the bus: what conflicts, what is shared, and that a buffer takes those that are.
-use Rattle.std.proofs.Common.{◌≡◌, ◌≢◌, ℕ, ◌+◌, ◌*◌, ◌<◌, ◌≤◌, ◌==◌, ◌||◌, ◌&&◌, not, Bool, true, false, List, [], ◌∷◌, length, refl, sym, ap, subst, ◌∙◌, inl, inr, arith, eqb-true, eq-eqb, ne_eqb}
+use Rattle.std.proofs.Common.{◌≡◌, ◌≢◌, ℕ, ◌+◌, ◌*◌, ◌<◌, ◌≤◌, ◌==◌, ◌||◌, Bool, true, List, [], ◌∷◌, length, refl, sym, ap, subst, ◌∙◌, inl, inr, arith, eqb-true, eq-eqb}
 use Rattle.std.proofs.lemmas.Bool.{both_ways, cases_Bool, cases_lt, or_left, or_right}
 use Rattle.rv32_image.specs.Image.{LoadedImage}
 use Rattle.rv32_image.specs.Machine.{is_line_length}
@@ -7,6 +7,7 @@ use Rattle.rv32_image.proofs.Bounds.{by_length}
 use Rattle.spec_history.specs.Conflict.{line_number}
 use Rattle.spec_history.specs.Searches.{count_below}
 use Rattle.orb.specs.Lines.{holds, IsEachOnce}
+use Rattle.homefree.proofs.Violations.Sharing.{but, not_this, unless_this}
 use Rattle.dependences.specs.Conflict.{AreBeside, LineConflict, PathReads, StoresIn, path_memory}
 use Rattle.dependences.specs.Shared.{IsShared, RunBeside, SharedOverflow, TouchesIn}
 use Rattle.dependences.proofs.Meetings.{passing}
@@ -43,15 +44,6 @@ low_number n i h = by_length (λ m. i ≤ m * i) n h (omega arith) (omega arith)
 
 -- ---- numbers that pass, counted
 
-abbrev but : (ℕ → Bool) → ℕ → ℕ → Bool
-but test i j = not (j == i) && test j
-
-still_passes : (test : ℕ → Bool) (i j : ℕ) → j ≢ i → but test i j ≡ test j
-still_passes test i j other = ap (λ b. not b && test j) (ne_eqb j i other)
-
-passes_not : (test : ℕ → Bool) (i : ℕ) → but test i i ≡ false
-passes_not test i = ap (λ b. not b && test i) (eq-eqb i i refl)
-
 -- the line is that of a number below n that passes
 abbrev IsOf : ℕ → ℕ → (ℕ → Bool) → ℕ → Type 0
 IsOf long n test a = (number : ℕ) × (a ≡ long * number) × (number < n) × (test number ≡ true)
@@ -73,11 +65,11 @@ at_most long n (a ∷ lines) test once all =
       two.0,
       two.1,
       two.2,
-      still_passes test i two.0
+      unless_this test i two.0
           (λ same. both_ways (holds lines a) once.0
           (subst (λ (x : ℕ). holds lines x ≡ true) (two.1 ∙ (ap (λ m. long * m) same ∙ sym one.1)) held)) ∙ two.3,
     )) in
-    let fewer = count_more n i (but test i) test one.2 (λ k other. still_passes test i k other) (passes_not test i) one.3 in
+    let fewer = count_more n i (but test i) test one.2 (λ k other. unless_this test i k other) (not_this test i) one.3 in
     omega (arith, rest, fewer)
 
 -- a number above all of these

@@ -2,6 +2,7 @@
 use Rattle.std.proofs.Common.{◌≡◌, ◌≢◌, ◌⊎◌, ℕ, ◌<◌, ◌==◌, ◌||◌, ◌&&◌, not, Bool, true, false, List, length, refl, sym, subst, ◌∙◌, inl, inr, arith, eqb-true}
 use Rattle.std.proofs.lemmas.Bool.{and_parts, both_ways, cases_Bool, cond-false}
 use Rattle.std.proofs.lemmas.Bool.Decides.{nat_tests}
+use Rattle.memory_bytes.proofs.SmallFacts.{enters_new}
 use Rattle.spec_states.specs.declared.line.LineState.{LineState}
 use Rattle.spec_states.specs.declared.line.Marks.{Marks}
 use Rattle.spec_states.specs.declared.next.Next.{Next}
@@ -21,7 +22,7 @@ use Rattle.spec_states.specs.Copies as copies
 use Rattle.bus_states.proofs.Cores.{entry-limit}
 use Rattle.bus_states.proofs.Hurting.{reply-violates}
 use Rattle.bus_states.proofs.Replies.{reply-follows, reply-gives_way}
-use Rattle.shared_lines.proofs.Tidy.{IsRight, IsTidy, IsChange, Stays, as_copy, from_copy, no_bytes, changed-tidy, changed-masks, carried-loaded, carried-written, carried-mask, required-written, mask-marked, out_of_buffer}
+use Rattle.shared_lines.proofs.Tidy.{IsRight, IsTidy, IsChange, Stays, as_copy, from_copy, no_bytes, changed-tidy, changed-masks, carried-loaded, carried-written, carried-mask, required-written, mask-marked}
 
 -- where an epoch stores in this line, the others that it stores in, and that are shared, are fewer than a buffer takes
 abbrev pub FitsBuffer : (ℕ → Type 0) → (ℕ → Type 0) → ℕ → ℕ → Type 0
@@ -91,7 +92,7 @@ module _ (R W H : ℕ → Type 0) (core : CoreState) (h : IsTidy R W H core) (no
   no_room after is full =
       let stored = entered is in
       let known = may (runs stored.0) in
-      let out : holds core.buffer.lines addr ≡ false = out_of_buffer (holds core.buffer.lines addr) (requires_ownership state marks) (requires_ownership next.state next.marks) next.enters (h.listed addr) row.enters is in
+      let out : holds core.buffer.lines addr ≡ false = enters_new (holds core.buffer.lines addr) (requires_ownership state marks) (requires_ownership next.state next.marks) next.enters (h.listed addr) row.enters is in
       let few : length core.buffer.lines < limit = known.fits after ((h.fit addr).written stored.1) core.buffer.lines h.once (λ a held. (
         λ same. both_ways (holds core.buffer.lines addr) out (subst (λ (x : ℕ). holds core.buffer.lines x ≡ true) same held),
         (h.fit a).written (required-written (core.copy a).state (core.copy a).marks (sym (h.listed a) ∙ held)),

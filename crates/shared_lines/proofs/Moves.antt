@@ -1,7 +1,5 @@
 -- The calls of the caches that a turn makes, by what the core does.
 use Rattle.std.proofs.Common.{◌≡◌, ℕ, ◌&&◌, not, Bool, true, false, cond, nat_lt, List, [], ◌∷◌, ◌++◌, Option, Some, None, is_some, sym, subst}
-use Rattle.rv32_exec.specs.Arrival.{Arrival}
-use Rattle.rv32_exec.specs.Hart.{HartState}
 use Rattle.rv32_exec.specs.NextEvent.{next_event}
 use Rattle.rv32_exec.specs.declared.stop.Stop.{Stop}
 use Rattle.spec_history.specs.FlatState.{CoreState}
@@ -13,6 +11,7 @@ use Rattle.homefree.specs.declared.register.Running.{Running}
 use Rattle.homefree.specs.Kept.{kept_of}
 use Rattle.homefree.specs.Moves.{IsHanded, Moves, Standing, TurnMoves, access_calls, calls_of, exits_of, is_exit, publish_calls, stop_calls}
 use Rattle.homefree.specs.Turned.{IsHandedIn, IsStale}
+use Rattle.homefree.proofs.SmallFacts.{stale_not}
 
 abbrev pub Made : List Call → Bool → ℕ → ℕ → CachedView → CachedView → Type 0
 Made calls leaves count core v w = Moves Makes store_view calls leaves count core v w
@@ -30,10 +29,6 @@ pub one_call : (call : Call) (count core : ℕ) (v w : CachedView) → Made (cal
 one_call call count core v w made = one_of call v w (leads_of (call ∷ []) count core v w made)
 
 -- ---- a core at a stop
-
-not_both : (next : Option Arrival) (hart : HartState) → IsStale next hart → IsHandedIn next hart → ⊥
-not_both None hart stale handed = handed
-not_both (Some arrival) hart stale handed = stale handed
 
 module _ (t : Standing) (v w : CachedView) (moves : TurnMoves Makes store_view t v w) where
   pub at_stop : (c : CoreState) (at : Stop) → t.running ≡ Some (kept_of c) → c.hurt ≡ false → IsHandedIn t.next c.hart → (next_event t.image c.hart).at ≡ at
@@ -54,7 +49,7 @@ module _ (t : Standing) (v w : CachedView) (moves : TurnMoves Makes store_view t
           subst (λ (a : Stop). Made (stop_calls t.image t.waits t.homefree t.core (kept_of c) (next_event t.image c.hart).now a) (is_exit t.image t.homefree (kept_of c) (next_event t.image c.hart).now a) t.count t.core v w) is
           (subst (λ (b : Bool). Made (cond b (Begin t.core c.epoch ∷ []) (stop_calls t.image t.waits t.homefree t.core (kept_of c) (next_event t.image c.hart).now (next_event t.image c.hart).at))
           (not b && true && is_exit t.image t.homefree (kept_of c) (next_event t.image c.hart).now (next_event t.image c.hart).at) t.count t.core v w) unhurt made)
-      pick false h made = absurd (not_both t.next c.hart (h unhurt) handed_in)
+      pick false h made = absurd (stale_not t.next c.hart (h unhurt) handed_in)
 
   -- a core that is told its hart
   pub at_stale : (c : CoreState) → t.running ≡ Some (kept_of c) → c.hurt ≡ false → IsStale t.next c.hart → w ≡ v
@@ -63,7 +58,7 @@ module _ (t : Standing) (v w : CachedView) (moves : TurnMoves Makes store_view t
       (subst (λ (r : Option Running). Made (calls_of t r moves.handed) (exits_of t r moves.handed) t.count t.core v w) runs moves.moves)
     where
       pick : (b : Bool) → IsHanded (Some (kept_of c)) t.next b → Made (calls_of t (Some (kept_of c)) b) (exits_of t (Some (kept_of c)) b) t.count t.core v w → w ≡ v
-      pick true h made = absurd (not_both t.next c.hart stale h)
+      pick true h made = absurd (stale_not t.next c.hart stale h)
       pick false h made = no_call t.count t.core v w
           (subst (λ (b : Bool). Made (cond b (Begin t.core c.epoch ∷ []) [])
           (not b && false && is_exit t.image t.homefree (kept_of c) (next_event t.image c.hart).now (next_event t.image c.hart).at) t.count t.core v w) unhurt made)

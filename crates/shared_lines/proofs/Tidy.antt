@@ -2,7 +2,7 @@
 use Rattle.std.proofs.Common.{◌≡◌, ℕ, ◌==◌, ◌||◌, ◌&&◌, not, Bool, true, false, cond, List, [], ◌∷◌, ◌++◌, Option, refl, sym, ap, subst, ◌∙◌, inl, inr, arith, eqb-true}
 use Rattle.std.proofs.lemmas.Bool.{cases_Bool}
 use Rattle.std.proofs.lemmas.Bool.Decides.{nat_tests}
-use Rattle.rv32_image.proofs.SmallFacts.{or_false}
+use Rattle.memory_bytes.proofs.SmallFacts.{enters_new, or_and_false, or_and_true, was_or_enters}
 use Rattle.spec_states.specs.declared.line.LineState.{LineState}
 use Rattle.spec_states.specs.declared.line.LineState.TheVariants.{I, S, E, M, SpS, SpE}
 use Rattle.spec_states.specs.declared.line.Marks.{Marks}
@@ -20,6 +20,7 @@ use Rattle.bus_states.specs.Bus.{CoreState}
 use Rattle.bus_states.specs.Coherent.{speculates}
 use Rattle.bus_states.specs.Messages.{Room, with_copy, with_entry, changed_core, leaves, without_line}
 use Rattle.bus_states.proofs.Copies.{made, made-required, made-state, unrequired}
+use Rattle.bus_states.proofs.Cores.{entry-holds}
 
 -- ---- copies
 
@@ -83,18 +84,6 @@ by_addr P old addr copy a here there =
 
 -- ---- buffers
 
-entry-holds : (enters : Bool) (addr a : ℕ) (buffer : Buffer) → holds (with_entry enters addr buffer).lines a ≡ (holds buffer.lines a || (enters && (addr == a)))
-entry-holds true addr a buffer = holds-push buffer.lines addr a
-entry-holds false addr a buffer = sym (or_false (holds buffer.lines a))
-
-entry : (held req req2 enters : Bool) → held ≡ req → enters ≡ (req2 && not req) → (req ≡ true → req2 ≡ true) → (held || enters) ≡ req2
-entry held true req2 enters e f up = grind (arith, nat_tests, up refl)
-entry held false req2 enters e f up = grind (arith, nat_tests)
-
-pub out_of_buffer : (held req req2 enters : Bool) → held ≡ req → enters ≡ (req2 && not req) → enters ≡ true → held ≡ false
-out_of_buffer held true req2 enters e f g = grind (arith, nat_tests)
-out_of_buffer held false req2 enters e f g = e
-
 entry-once : (enters : Bool) (addr : ℕ) (buffer : Buffer) → IsEachOnce buffer.lines → (enters ≡ true → holds buffer.lines addr ≡ false)
     → IsEachOnce (with_entry enters addr buffer).lines
 entry-once true addr buffer once out = IsEachOnce-push buffer.lines addr once (out refl)
@@ -130,24 +119,16 @@ module _ (R W H : ℕ → Type 0) (core : CoreState) (h : IsTidy R W H core) whe
             ∙ elim (addr == a) as (λ b. (addr == a) ≡ b → (holds core.buffer.lines a || (next.enters && b)) ≡ requires_ownership (cond b (made next.state next.marks cell) (core.copy a)).state (cond b (made next.state next.marks cell) (core.copy a)).marks) [
               | true ↦ λ e.
                   let at : addr ≡ a = grind (arith, nat_tests) in
-                  rw (← at) (here next.enters _ _ (entry (holds core.buffer.lines addr) _ _ next.enters (h.listed addr) t.enters t.stays_required) ∙ sym (made-required next.state next.marks cell))
-              | false ↦ λ e. same (holds core.buffer.lines a) next.enters ∙ h.listed a
+                  rw (← at) (or_and_true next.enters _ _ (was_or_enters (holds core.buffer.lines addr) _ _ next.enters (h.listed addr) t.enters t.stays_required) ∙ sym (made-required next.state next.marks cell))
+              | false ↦ λ e. or_and_false (holds core.buffer.lines a) next.enters ∙ h.listed a
             ] refl;
-        once = entry-once next.enters addr core.buffer h.once (out_of_buffer (holds core.buffer.lines addr) _ _ next.enters (h.listed addr) t.enters);
+        once = entry-once next.enters addr core.buffer h.once (enters_new (holds core.buffer.lines addr) _ _ next.enters (h.listed addr) t.enters);
         share = λ a. share-after H next.enters addr a core.buffer h.share t.entered;
         fit = λ a. by_addr (λ x copy. IsFit (R x) (W x) copy.state copy.marks) core.copy addr (made next.state next.marks cell) a
             (made-fit (R addr) (W addr) next.state next.marks cell t.fit) (h.fit a);
         unmarked = λ s a. by_addr (λ x copy. is_speculative copy.state ≡ false) core.copy addr (made next.state next.marks cell) a
             (ap is_speculative (made-state next.state next.marks cell) ∙ t.unmarked s) (h.unmarked s a);
       }
-    where
-      here : (enters held req : Bool) → (held || enters) ≡ req → (held || (enters && true)) ≡ req
-      here true held req e = e
-      here false held req e = e
-
-      same : (held enters : Bool) → (held || (enters && false)) ≡ held
-      same held true = grind (arith, nat_tests)
-      same held false = grind (arith, nat_tests)
 
   -- the buffer is as it was
   pub with_copy-tidy : (addr : ℕ) (copy : LineCopy) → IsFit (R addr) (W addr) copy.state copy.marks

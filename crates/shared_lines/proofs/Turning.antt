@@ -24,6 +24,7 @@ use Rattle.bus_states.specs.Bus.{Bus, line_of, offset_of}
 use Rattle.bus_states.specs.Coherent.{speculates}
 use Rattle.bus_states.specs.Views.{view_of}
 use Rattle.rv32_image.specs.Places.{place}
+use Rattle.spec_history.proofs.Replay.Joining.{one_more}
 use Rattle.spec_bus.specs.Cached.{CachedView, bus, store_view, shape_over}
 use Rattle.homefree.specs.declared.answer.Answer.{Answer}
 use Rattle.homefree.specs.declared.answer.Answer.TheVariants.{Over}
@@ -39,7 +40,7 @@ use Rattle.shared_lines.proofs.Accesses.{MayTell, attempts, limits, epoch_on}
 use Rattle.shared_lines.proofs.Lines.{Reads, Shares, Writes}
 use Rattle.shared_lines.proofs.Epochs.{IsSeen, attempt_by, may_tell}
 use Rattle.shared_lines.proofs.Calls.{HasPlaces}
-use Rattle.shared_lines.proofs.Calm.{IsCalm, calm_of, one_more, starts_before, unhurt-append, unhurt-one}
+use Rattle.shared_lines.proofs.Calm.{IsCalm, calm_of, starts_before, unhurt-append, unhurt-one}
 
 -- ---- whom a call violates
 

@@ -14,6 +14,7 @@ use Rattle.spec_history.specs.FlatState.{CoreState, FlatState, begun}
 use Rattle.spec_history.specs.Effect.{effect_idle, effect_on}
 use Rattle.spec_history.specs.Replay.{replay}
 use Rattle.spec_history.proofs.Replay.Replays.{effect-idle}
+use Rattle.spec_history.proofs.Replay.Joining.{one_more}
 use Rattle.violations.specs.declared.step.WaitCause.{WaitCause}
 use Rattle.violations.specs.View.{StoreView, Waits, attempt_of}
 use Rattle.violations.specs.Rule.{IsSameView}
@@ -38,7 +39,7 @@ use Rattle.shared_lines.proofs.Straights.{Sets, attempt-sets}
 use Rattle.shared_lines.proofs.Lines.{Reads, Shares, Writes}
 use Rattle.shared_lines.proofs.Epochs.{IsSeen, attempt_by, store_access}
 use Rattle.shared_lines.proofs.Calls.{HasPlaces, load_call, load_waits_same, places_after, store_call, store_masks, store_waits_same}
-use Rattle.shared_lines.proofs.Calm.{IsCalm, one_more, unhurt-append, unhurt-one}
+use Rattle.shared_lines.proofs.Calm.{IsCalm, unhurt-append, unhurt-one}
 use Rattle.shared_lines.proofs.Moves.{AccessMade, Made, access_made, at_none, at_stale, at_start, at_stop, no_call}
 use Rattle.shared_lines.proofs.Seen.{goes-seen, sets-seen, still-has, store-has}
 use Rattle.shared_lines.proofs.Turning.{Keeps, hurts_none, keeps_one, keeps_same, keeps_so, none_hurt}
