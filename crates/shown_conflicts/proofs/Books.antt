@@ -1,6 +1,7 @@
 -- A turn of a book over a plain store that violates no epoch.
-use Rattle.std.proofs.Common.{◌≡◌, ◌≢◌, ℕ, ◌<◌, cond, List, ◌++◌, length, length-append, slice_get, Option, Some, None, Result, Ok, option_map, refl, sym, ap, subst, ◌∙◌, inl, inr, arith, eq-eqb, ne_eqb}
+use Rattle.std.proofs.Common.{◌≡◌, ◌≢◌, ℕ, ◌<◌, cond, List, ◌++◌, length, length-append, slice_get, Option, Some, None, Ok, option_map, refl, sym, ap, subst, ◌∙◌, inl, inr, arith, eq-eqb, ne_eqb}
 use Rattle.std.proofs.lemmas.Bool.{cases_eq, cases_lt}
+use Rattle.memory_bytes.proofs.SmallFacts.{ok_same}
 use Rattle.rv32_image.proofs.SmallFacts.{one_value}
 use Rattle.rv32_exec.specs.declared.sequential.End.{End}
 use Rattle.rv32_exec.specs.Arrival.{Arrival}
@@ -13,7 +14,6 @@ use Rattle.violations.specs.View.{never_waits}
 use Rattle.violations.specs.Plain.{Makes, store_view}
 use Rattle.homefree.specs.declared.answer.Answer.{Answer}
 use Rattle.homefree.specs.declared.answer.Answer.TheVariants.{Go, Again, Left, Over, Stopped}
-use Rattle.homefree.specs.declared.fault.TurnFault.{TurnFault}
 use Rattle.homefree.specs.Agrees.{Agrees}
 use Rattle.homefree.specs.BookView.{ReplaysTo}
 use Rattle.homefree.specs.Driven.{TurnedWith, arrival_of, driver, held_after, with_held}
@@ -31,9 +31,6 @@ use Rattle.shown_conflicts.specs.Drives.{IsAfter, IsDrive, IsTurn}
 use Rattle.shown_conflicts.specs.Violation.{IsCalmFrom}
 use Rattle.shown_conflicts.specs.Quiet.{ComesTo, IsQuiet, RunsEpoch, Starts}
 use Rattle.shown_conflicts.proofs.Turning.{Keeps, OwnHart, acted, begins, keeps}
-
-same_answer : (answer other : Answer) → (let r : Result Answer TurnFault = Ok answer in r ≡ Ok other) → answer ≡ other
-same_answer answer other is = cc
 
 module _ (old new : Drive) (core : ℕ) (answer : Answer) (unstopped : old.book.stopped ≡ None) (before : InStep store_view old.book) (after : InStep store_view new.book)
     (calm : NoneIsHurt new.book.history)
@@ -55,7 +52,7 @@ module _ (old new : Drive) (core : ℕ) (answer : Answer) (unstopped : old.book.
       cc
 
   was_going_by : ((e : End) → answer ≢ Over e) → Turned store_view (λ _. never_waits) old.book s old.shares core next (Ok answer) new.book new.shares → s.end ≡ None
-  was_going_by on (turn.over o same held) = absurd (on o.end (same_answer answer (Over o.end) o.answer_is))
+  was_going_by on (turn.over o same held) = absurd (on o.end (ok_same answer (Over o.end) o.answer_is))
   was_going_by on (turn.stopped o same held) = o.going
   was_going_by on (turn.full o same held) = o.going
   was_going_by on (turn.no_memory may same grows is) = may.going
@@ -86,7 +83,7 @@ module _ (old new : Drive) (core : ℕ) (answer : Answer) (unstopped : old.book.
     agrees = agrees_same s (store_view old.book.store) acting.reserved (subst (λ x. Agrees x (store_view old.book.store)) (one_value (replay old.book.image old.book.cores old.book.history) before.state s before.replays replays) before.agrees) acting.same
 
     answer_is : answer ≡ acting.out.answer
-    answer_is = same_answer answer acting.out.answer acting.answer_is
+    answer_is = ok_same answer acting.out.answer acting.answer_is
 
     -- of a core that runs an epoch
     pub comes_on : (epoch : ℕ) → RunsEpoch s core epoch → ComesTo old.book.image s after.state core epoch answer

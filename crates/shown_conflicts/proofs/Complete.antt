@@ -1,6 +1,6 @@
 -- What a core that has not published keeps of its epoch: over any memory that has the bytes which it has read from outside, it is on
 -- its path, it owns all that it has stored, and it has read all that the path has read from outside.
-use Rattle.std.proofs.Common.{◌≡◌, ℕ, ◌+◌, ◌<◌, ◌≤◌, ◌||◌, ◌==◌, not, Bool, true, false, cond, List, length, slice_index, take, Option, Some, None, is_some, unwrap_or, refl, sym, ap, subst, ◌∙◌, inl, inr, true≢false, arith, eqb-true}
+use Rattle.std.proofs.Common.{◌≡◌, ℕ, ◌+◌, ◌<◌, ◌≤◌, ◌||◌, ◌==◌, not, Bool, true, false, cond, List, length, slice_index, take, Option, Some, None, is_some, refl, sym, ap, subst, ◌∙◌, inl, inr, true≢false, arith, eqb-true}
 use Rattle.std.proofs.lemmas.Bool.{and_parts, not-true}
 use Rattle.std.proofs.lemmas.List.{take_all}
 use Rattle.std.proofs.lemmas.Option.{none-some, same_Some}
@@ -8,6 +8,7 @@ use Rattle.rv32_image.specs.Image.{LoadedImage, IsImage}
 use Rattle.memory_bytes.specs.Bytes.{number_at}
 use Rattle.memory_bytes.specs.Maps.{first_of, joined, over, read_outside, stored}
 use Rattle.memory_bytes.proofs.Bytes.{number_at_same}
+use Rattle.memory_bytes.proofs.SmallFacts.{seen_by, some_first}
 use Rattle.rv32_exec.specs.declared.stop.Stop.TheVariants as stop
 use Rattle.rv32_exec.specs.Hart.{stepped}
 use Rattle.rv32_exec.specs.NextEvent.{next_event}
@@ -54,14 +55,6 @@ still_by : (o before : Option ℕ) (committed byte : ℕ) → ((b : ℕ) → o �
 still_by None before committed byte now is stands = is
 still_by (Some b) before committed byte now is stands = ap Some (now b refl ∙ stands)
 
-some_still : (first second : Option ℕ) → is_some second ≡ true → is_some (first_of first second) ≡ true
-some_still None second is = is
-some_still (Some b) second is = refl
-
-seen_by : (own : Option ℕ) (here there : ℕ) → (own ≡ None → here ≡ there) → unwrap_or own here ≡ unwrap_or own there
-seen_by None here there same = same refl
-seen_by (Some byte) here there same = refl
-
 module _ (image : LoadedImage) (committed : ℕ → ℕ) (c : CoreState) (address width : ℕ) (signed : Bool) (rd value : ℕ) (is : (next_event image c.hart).at ≡ stop.Load address width signed rd)
     (number : number_at (over c.own committed) address width ≡ value) (stands : (a byte : ℕ) → c.outside a ≡ Some byte → committed a ≡ byte) where
   abbrev loaded : CoreState
@@ -78,7 +71,7 @@ module _ (image : LoadedImage) (committed : ℕ → ℕ) (c : CoreState) (addres
   }
 
   read_so : (a : ℕ) → is_some (c.outside a) ≡ true → is_some (loaded.outside a) ≡ true
-  read_so a before = some_still (read_outside address width c.own committed a) (c.outside a) before
+  read_so a before = some_first (read_outside address width c.own committed a) (c.outside a) before
 
   read_here : (a : ℕ) → address ≤ a → a < address + width → c.own a ≡ None → loaded.outside a ≡ Some (committed a)
   read_here a low high none = ap (λ o. first_of o (c.outside a)) (noted address width a c.own committed low high none)

@@ -23,6 +23,14 @@ module _ (image : LoadedImage) (epoch : ℕ) (memory : List ℕ) (a : ℕ) where
   abbrev Decided : ℕ → Type 0
   Decided step = StoresAt image epoch memory step a ⊎ (StoresAt image epoch memory step a → ⊥)
 
+  -- a store at a step is what the hart there does
+  stores_here : (step : ℕ) (h : HartState) (after : List ℕ) → after_steps image step (start_of image epoch) memory ≡ Runs h after → (there : StoresAt image epoch memory step a)
+      → hart_effect image h ≡ Stops (stop.Store there.address there.width there.value)
+  stores_here step h after runs there =
+      let both : Runs h after ≡ Runs there.hart there.after = sym runs ∙ there.runs in
+      let hart : h ≡ there.hart = cc in
+      ap (hart_effect image) hart ∙ there.stops
+
   decided_at : (step : ℕ) (h : HartState) (after : List ℕ) (e : Effect) → after_steps image step (start_of image epoch) memory ≡ Runs h after → hart_effect image h ≡ e → Decided step
   decided_at step h after (Stops (stop.Store address width value)) runs is = elim (cases_lt a address) [
     | inl low ↦ inr (λ there. let same = covers there in let from = there.from in omega (arith, low, same.0, from))
@@ -34,37 +42,11 @@ module _ (image : LoadedImage) (epoch : ℕ) (memory : List ℕ) (a : ℕ) where
     where
       covers : (there : StoresAt image epoch memory step a) → (there.address ≡ address) × (there.width ≡ width)
       covers there =
-          let both : Runs h after ≡ Runs there.hart there.after = sym runs ∙ there.runs in
-          let hart : h ≡ there.hart = cc in
-          let stops : Stops (stop.Store address width value) ≡ Stops (stop.Store there.address there.width there.value) = sym is ∙ (ap (hart_effect image) hart ∙ there.stops) in (cc, cc)
-  decided_at step h after (Stops (stop.Load address width signed rd)) runs is = inr (λ there. other there)
-    where
-      other : StoresAt image epoch memory step a → ⊥
-      other there =
-          let both : Runs h after ≡ Runs there.hart there.after = sym runs ∙ there.runs in
-          let hart : h ≡ there.hart = cc in
-          let stops : Stops (stop.Load address width signed rd) ≡ Stops (stop.Store there.address there.width there.value) = sym is ∙ (ap (hart_effect image) hart ∙ there.stops) in cc
-  decided_at step h after (Stops stop.Ended) runs is = inr (λ there. other there)
-    where
-      other : StoresAt image epoch memory step a → ⊥
-      other there =
-          let both : Runs h after ≡ Runs there.hart there.after = sym runs ∙ there.runs in
-          let hart : h ≡ there.hart = cc in
-          let stops : Stops stop.Ended ≡ Stops (stop.Store there.address there.width there.value) = sym is ∙ (ap (hart_effect image) hart ∙ there.stops) in cc
-  decided_at step h after (Stops (stop.Fault cause pc)) runs is = inr (λ there. other there)
-    where
-      other : StoresAt image epoch memory step a → ⊥
-      other there =
-          let both : Runs h after ≡ Runs there.hart there.after = sym runs ∙ there.runs in
-          let hart : h ≡ there.hart = cc in
-          let stops : Stops (stop.Fault cause pc) ≡ Stops (stop.Store there.address there.width there.value) = sym is ∙ (ap (hart_effect image) hart ∙ there.stops) in cc
-  decided_at step h after (Executes x) runs is = inr (λ there. other there)
-    where
-      other : StoresAt image epoch memory step a → ⊥
-      other there =
-          let both : Runs h after ≡ Runs there.hart there.after = sym runs ∙ there.runs in
-          let hart : h ≡ there.hart = cc in
-          let stops : Executes x ≡ Stops (stop.Store there.address there.width there.value) = sym is ∙ (ap (hart_effect image) hart ∙ there.stops) in cc
+          let stops : Stops (stop.Store address width value) ≡ Stops (stop.Store there.address there.width there.value) = sym is ∙ stores_here step h after runs there in (cc, cc)
+  decided_at step h after (Stops (stop.Load address width signed rd)) runs is = inr (λ there. let stops = sym is ∙ stores_here step h after runs there in cc)
+  decided_at step h after (Stops stop.Ended) runs is = inr (λ there. let stops = sym is ∙ stores_here step h after runs there in cc)
+  decided_at step h after (Stops (stop.Fault cause pc)) runs is = inr (λ there. let stops = sym is ∙ stores_here step h after runs there in cc)
+  decided_at step h after (Executes x) runs is = inr (λ there. let stops = sym is ∙ stores_here step h after runs there in cc)
 
   decided_by : (step : ℕ) (p : Progress) → after_steps image step (start_of image epoch) memory ≡ p → Decided step
   decided_by step (Runs h after) is = decided_at step h after (hart_effect image h) is refl

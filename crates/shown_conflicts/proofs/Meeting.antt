@@ -1,6 +1,6 @@
 -- The first outside read of a byte that is stored in the window is reached on the path: an epoch conflicts with none before it, where
 -- none of these stores in order a byte that it reads from outside over memory before the window.
-use Rattle.std.proofs.Common.{◌≡◌, ◌⊎◌, ℕ, zero, suc, ◌+◌, ◌<◌, ◌≤◌, length, slice_index, refl, sym, subst, ◌∙◌, inl, inr, arith, add-one}
+use Rattle.std.proofs.Common.{◌≡◌, ℕ, ◌≤◌, slice_index, refl, sym, subst, inl, inr, arith}
 use Rattle.rv32_image.specs.Image.{LoadedImage, IsImage}
 use Rattle.rv32_exec.specs.declared.sequential.End.{End}
 use Rattle.rv32_exec.specs.declared.sequential.End.TheVariants.{Done, Exit, Fault}
@@ -9,46 +9,13 @@ use Rattle.dependences.specs.Paths.{ReadsOutside, Stores}
 use Rattle.dependences.specs.Conflict.{ConflictInOrder, IsInOrder, first_beside, memory_before, memory_by}
 use Rattle.dependences.specs.Laws.{IsAlike}
 use Rattle.dependences.proofs.Alike.{alike}
-use Rattle.dependences.proofs.Committing.{up_to_next}
-use Rattle.dependences.proofs.InOrder.{all_in_order, alike_all, before_in_order, ends_with, low_most, memory_none}
-use Rattle.dependences.proofs.Showing.{number_done, reads_so, run_in_order, turned}
+use Rattle.dependences.proofs.InOrder.{all_in_order, alike_all, low_most}
+use Rattle.dependences.proofs.Showing.{number_done, reads_so, run_in_order, turned, IsWrittenInOrder, all_up}
 use Rattle.shown_conflicts.specs.Shown.{IsConflictAt}
 use Rattle.shown_conflicts.specs.Windows.{NoneMeet}
 
--- the byte is as it was before this epoch, or one from it on, and before that one, stores it in order
-abbrev IsStored : LoadedImage → ℕ → ℕ → ℕ → Type 0
-IsStored image from to a =
-    (slice_index (memory_before image to) a ≡ slice_index (memory_before image from) a)
-    ⊎ ((x : ℕ) × (from ≤ x) × (x < to) × Stores image x (memory_before image x) a)
-
-record IsUp (image : LoadedImage) (h : ℕ) : Type 0 where
-  pub long : length (memory_before image h) ≡ image.size
-  pub written : (d : ℕ) → d ≤ h → (a : ℕ) → IsStored image d h a
-
-later_by : (image : LoadedImage) (d h a : ℕ) → d ≤ h → (slice_index (memory_before image (h + 1)) a ≡ slice_index (memory_before image h) a) ⊎ Stores image h (memory_before image h) a
-    → IsStored image d h a → IsStored image d (h + 1) a
-later_by image d h a most (inr stores) before = inr (h, most, omega arith, stores)
-later_by image d h a most (inl same) (inl before) = inl (same ∙ before)
-later_by image d h a most (inl same) (inr x) = inr (x.0, x.1, omega (arith, x.2), x.3)
-
-up_next : (image : LoadedImage) (h : ℕ) → IsInOrder image (suc h) → IsUp image h → IsUp image (h + 1)
-up_next image h is up =
-    let now = ends_with image h (memory_before image h) is
-    (alike image h (memory_before image h) (memory_before image h) up.long up.long (λ a reads. refl) (image.limit + 1)) in record {
-      long = now.0;
-      written = λ d most a. up_to_next (λ n. IsStored image n (h + 1) a) h (λ n low. later_by image n h a low (now.1 a) (up.written n low a)) (inl refl) d most;
-    }
-
--- for each epoch that runs in order
-all_up : (image : LoadedImage) (h : ℕ) → IsImage image → IsInOrder image h → IsUp image h
-all_up image zero is order = record {
-  long = memory_none image is;
-  written = λ d most a. let none : 0 ≡ d = omega (arith, most) in subst (λ n. IsStored image n 0 a) none (inl refl);
-}
-all_up image (suc h) is order = subst (λ n. IsUp image n) (add-one h) (up_next image h order (all_up image h is (before_in_order image h order)))
-
 module _ (image : LoadedImage) (is : IsImage image) (first later : ℕ) (low : first ≤ later) (none : NoneMeet image first later) where
-  unstored : IsInOrder image later → (a : ℕ) → ReadsOutside image later (memory_before image first) a → IsStored image first later a
+  unstored : IsInOrder image later → (a : ℕ) → ReadsOutside image later (memory_before image first) a → IsWrittenInOrder image first later a
       → slice_index (memory_before image first) a ≡ slice_index (memory_before image later) a
   unstored order a reads (inl same) = sym same
   unstored order a reads (inr x) = absurd (none x.0 a x.1 x.2 (all_in_order image later x.0 order (omega (arith, x.2))) (x.3, reads))

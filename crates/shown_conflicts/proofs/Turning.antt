@@ -1,7 +1,8 @@
 -- What a turn over a plain store makes of a quiet state, where it violates no epoch.
-use Rattle.std.proofs.Common.{◌≡◌, ◌≢◌, ℕ, zero, suc, ◌+◌, ◌<◌, ◌==◌, Bool, true, false, cond, List, [], ◌∷◌, ◌++◌, length, slice_get, Option, Some, None, is_some, IsSome, refl, sym, ap, subst, ◌∙◌, inl, inr, true≢false, arith, append-nil, eqb-true}
+use Rattle.std.proofs.Common.{◌≡◌, ◌≢◌, ℕ, zero, suc, ◌+◌, ◌<◌, ◌==◌, Bool, true, false, cond, List, [], ◌∷◌, ◌++◌, length, Option, Some, None, is_some, IsSome, refl, sym, ap, subst, ◌∙◌, inl, inr, true≢false, arith, append-nil, eqb-true}
 use Rattle.std.proofs.lemmas.Bool.{cases_eq}
 use Rattle.std.proofs.lemmas.Option.{none-some, same_Some}
+use Rattle.memory_bytes.proofs.SmallFacts.{in_front, some_unless}
 use Rattle.rv32_image.specs.Image.{LoadedImage, IsImage}
 use Rattle.rv32_image.proofs.SmallFacts.{one_value}
 use Rattle.rv32_exec.specs.declared.stop.Stop.{Stop}
@@ -10,7 +11,6 @@ use Rattle.rv32_exec.specs.declared.sequential.End.{End}
 use Rattle.rv32_exec.specs.declared.sequential.End.TheVariants as end
 use Rattle.rv32_exec.specs.Hart.{HartState, start_of}
 use Rattle.rv32_exec.specs.NextEvent.{next_event}
-use Rattle.rv32_exec.specs.Arrival.{Arrival}
 use Rattle.rv32_exec.specs.Laws.{HasStopped}
 use Rattle.rv32_exec.specs.Sequential.{after_stop, first_epochs}
 use Rattle.spec_history.specs.declared.entry.Entry.{Entry}
@@ -18,13 +18,11 @@ use Rattle.spec_history.specs.declared.entry.What.{What}
 use Rattle.spec_history.specs.declared.entry.What.TheVariants.{Start, Load, Store, Hurt, Commit}
 use Rattle.spec_history.specs.FlatState.{CoreState, FlatState, begun, end_at}
 use Rattle.spec_history.specs.Effect.{effect, effect_idle, effect_on, with_core}
-use Rattle.spec_history.specs.Refusal.{refusal_of}
-use Rattle.spec_history.specs.Replay.{replay, replay_from}
+use Rattle.spec_history.specs.Replay.{replay}
 use Rattle.spec_history.proofs.OneEntry.Going.{Going}
 use Rattle.spec_history.proofs.OneEntry.Keeping.{at_core, with_core_other, with_core_same}
-use Rattle.spec_history.proofs.Replay.Joining.{splits}
-use Rattle.spec_history.proofs.Replay.Replays.{effect-idle, effect-on, legal_by, replayed}
-use Rattle.violations.specs.declared.step.WaitCause.{WaitCause}
+use Rattle.spec_history.proofs.Replay.Replays.{effect-idle, effect-on, replayed}
+use Rattle.spec_history.proofs.Replay.Joining.{one_more}
 use Rattle.violations.specs.View.{StoreView, Waits, never_waits}
 use Rattle.violations.specs.Rule.{Publishes}
 use Rattle.homefree.specs.declared.answer.Answer.{Answer}
@@ -34,7 +32,8 @@ use Rattle.homefree.specs.declared.answer.Cause.TheVariants.{NoEpoch, NotHomefre
 use Rattle.homefree.specs.Agrees.{Agrees, AgreesCore}
 use Rattle.homefree.specs.Hurts.{entry, entry_for_each, epoch_on}
 use Rattle.homefree.specs.Turned as turn
-use Rattle.homefree.specs.Turned.{IsEnd, IsHandedIn, IsStale, Outcome, Turn, cause_of, does, entry_of, hurts_of, left_or_over, publishes_unless, wait_at}
+use Rattle.homefree.specs.Turned.{IsEnd, IsHandedIn, Outcome, Turn, cause_of, does, entry_of, hurts_of, left_or_over, publishes_unless, wait_at}
+use Rattle.homefree.proofs.SmallFacts.{stale_not, wait_never}
 use Rattle.dependences.specs.Conflict.{IsInOrder, memory_before}
 use Rattle.dependences.specs.Laws.{NoneIsHurt}
 use Rattle.dependences.specs.Paths.{ReadsOutside, Stores}
@@ -51,11 +50,6 @@ use Rattle.shown_conflicts.proofs.Complete.{IsComplete, all_know}
 pub unhurt_right : (xs ys : List Entry) → NoneIsHurt (xs ++ ys) → NoneIsHurt ys
 unhurt_right [] ys all = all
 unhurt_right (x ∷ xs) ys all = unhurt_right xs ys (λ place entry at. all (suc place) entry at)
-
-in_front : (xs ys : List Entry) (place : ℕ) (entry : Entry) → slice_get xs place ≡ Some entry → slice_get (xs ++ ys) place ≡ Some entry
-in_front [] ys place entry at = absurd cc
-in_front (x ∷ xs) ys zero entry at = at
-in_front (x ∷ xs) ys (suc place) entry at = in_front xs ys place entry at
 
 unhurt_left : (xs ys : List Entry) → NoneIsHurt (xs ++ ys) → NoneIsHurt xs
 unhurt_left xs ys all place entry at = all place entry (in_front xs ys place entry at)
@@ -78,19 +72,6 @@ none_made by these what zero none = refl
 none_made by these what (suc n) none =
     ap (λ b. entry_for_each by these what n ++ cond b (entry by (what n)) []) (none n (omega arith))
     ∙ (append-nil (entry_for_each by these what n) ∙ none_made by these what n (λ k below. none k (omega (arith, below))))
-
--- ---- one entry more
-
-one_more : (image : LoadedImage) (count : ℕ) (history : List Entry) (s t : FlatState) (entry : Entry) → replay image count history ≡ Some s
-    → replay image count (history ++ entry ∷ []) ≡ Some t → t ≡ effect image s entry
-unfolding replay_from
-one_more image count history s t entry before replays =
-    let parts = splits image count history (entry ∷ []) t replays in
-    let same : parts.between ≡ s = one_value (replay image count history) parts.between s parts.first_replays before in
-    by_one s t (subst (λ (x : FlatState). replay_from image count x (entry ∷ []) ≡ Some t) same parts.later_replays)
-  where
-    by_one : (s t : FlatState) → replay_from image count s (entry ∷ []) ≡ Some t → t ≡ effect image s entry
-    by_one s t replays = legal_by image count s entry [] t (refusal_of image count s entry) refl replays (λ legal rest. let same : effect image s entry ≡ t = cc in sym same)
 
 -- ---- quiet states
 
@@ -147,26 +128,12 @@ stopped_at h memory (stop.Store address width value) ends = absurd ends
 stopped_at h memory stop.Ended ends = tt
 stopped_at h memory (stop.Fault cause pc) ends = tt
 
-some_of : (o : Option ℕ) → ((o ≡ None) → ⊥) → is_some o ≡ true
-some_of None none = absurd (none refl)
-some_of (Some x) none = refl
-
 end_done : (image : LoadedImage) (homefree : ℕ) (e : End) → end_at image homefree ≡ Some e → homefree ≡ image.epochs
 end_done image homefree e is = by_test (homefree == image.epochs) refl is
   where
     by_test : (b : Bool) → (homefree == image.epochs) ≡ b → cond b (Some (end.Done homefree)) None ≡ Some e → homefree ≡ image.epochs
     by_test true same some = eqb-true homefree image.epochs same
     by_test false same some = absurd cc
-
-never : (core : ℕ) (at : Stop) (cause : WaitCause) → wait_at never_waits core at ≡ Some cause → ⊥
-never core (stop.Load address width signed rd) cause is = cc
-never core (stop.Store address width value) cause is = cc
-never core stop.Ended cause is = cc
-never core (stop.Fault c pc) cause is = cc
-
-not_stale : (next : Option Arrival) (hart : HartState) → IsHandedIn next hart → IsStale next hart → ⊥
-not_stale None hart handed stale = handed
-not_stale (Some arrival) hart handed stale = stale handed
 
 some_entry : (xs : List Entry) (e : Entry) → 0 < length (xs ++ e ∷ [])
 some_entry [] e = omega arith
@@ -205,6 +172,9 @@ module _ (t : Turn) (v w : StoreView) (out : Outcome) (h : List Entry) (u : Flat
       all_know t.image t.cores h t.state is replays k c at (quiet.speculates k c at) (memory_before t.image t.state.homefree)
       (record { long = now.long; bytes = λ a byte read. sym (now.same a) ∙ (going.kept.core k c at).reads_stand (quiet.unhurt k c at) a byte read })
 
+  done : first_epochs t.image t.state.homefree ≡ record { end = end.Done t.state.homefree; bytes = memory_before t.image t.state.homefree }
+  done = done_before t.image t.state.homefree going.shown.before going.shown.done
+
   -- ---- what the entries make
 
   made_none : (answer : Answer) → out ≡ does [] answer → u ≡ t.state
@@ -214,8 +184,8 @@ module _ (t : Turn) (v w : StoreView) (out : Outcome) (h : List Entry) (u : Flat
 
   made_one : (what : What) (entries : List Entry) → out.entries ≡ entries → entries ≡ entry t.core what → u ≡ effect t.image t.state (record { by = t.core; what = what })
   made_one what entries first second =
-      one_more t.image t.cores h t.state u (record { by = t.core; what = what }) replays
-      (subst (λ (es : List Entry). replay t.image t.cores (h ++ es) ≡ Some u) (first ∙ second) leads)
+      sym (one_more t.image t.cores h t.state u (record { by = t.core; what = what }) replays
+      (subst (λ (es : List Entry). replay t.image t.cores (h ++ es) ≡ Some u) (first ∙ second) leads))
 
   none_hurt : (hurt : ℕ → Bool) (rest : List Entry) (answer : Answer) → out ≡ does (hurts_of t hurt ++ rest) answer → (k : ℕ) → k < t.cores → hurt k ≡ false
   none_hurt hurt rest answer is_out =
@@ -280,7 +250,7 @@ module _ (t : Turn) (v w : StoreView) (out : Outcome) (h : List Entry) (u : Flat
         (goes_with t.state x t.core _ quiet refl refl refl refl (quiet.unhurt t.core c at) (quiet.speculates t.core c at))))
 
     waited : turn.IsWait t v w out → ComesTo t.image t.state u t.core epoch out.answer
-    waited l = absurd (never t.core l.at l.cause (sym (ap (λ (y : Waits). wait_at y t.core l.at) waits) ∙ l.waits))
+    waited l = absurd (wait_never t.core l.at l.cause (sym (ap (λ (y : Waits). wait_at y t.core l.at) waits) ∙ l.waits))
 
     no_load : (address width : ℕ) → IsSome (t.waits.load t.core address width) → ⊥
     no_load address width some = true≢false (sym some ∙ ap (λ (y : Waits). is_some (y.load t.core address width)) waits)
@@ -307,6 +277,12 @@ module _ (t : Turn) (v w : StoreView) (out : Outcome) (h : List Entry) (u : Flat
           read = read;
         }))
 
+    number : (c : CoreState) → t.state.cores t.core ≡ Some c → c.epoch ≡ t.state.homefree → epoch ≡ t.state.homefree
+    number c at homefree = sym (epoch_is c at) ∙ homefree
+
+    next_runs : epoch ≡ t.state.homefree → (d : ℕ) → epoch < d → IsInOrder t.image d → IsInOrder t.image (t.state.homefree + 1)
+    next_runs same d low order = all_in_order t.image d (t.state.homefree + 1) order (omega (arith, low, same))
+
     -- a byte of its own that another core has read would violate that one
     module _ (c : CoreState) (at : t.state.cores t.core ≡ Some c) (homefree : c.epoch ≡ t.state.homefree) (e : Stop) (event : (next_event t.image c.hart).at ≡ e) (ends : IsEnd e) (x : StoreView)
         (hurt : ℕ → Bool) (publishes : publishes_unless c.straight v x t.core hurt) (none : (k : ℕ) → k < t.cores → hurt k ≡ false) where
@@ -326,7 +302,7 @@ module _ (t : Turn) (v w : StoreView) (out : Outcome) (h : List Entry) (u : Flat
       owned a stores =
           let here = subst (λ n. Stores t.image c.epoch (memory_before t.image n) a) homefree stores in
           (agrees_at t.core c at).own a
-          ∙ some_of (c.own a) (λ unowned. all_stored t.image c.epoch (memory_before t.image t.state.homefree) c.hart c.own all.at stopped a unowned here)
+          ∙ some_unless (c.own a) (λ unowned. all_stored t.image c.epoch (memory_before t.image t.state.homefree) c.hart c.own all.at stopped a unowned here)
 
       passed_by : (k : ℕ) (d : CoreState) (a : ℕ) → k ≢ t.core → t.state.cores k ≡ Some d → Stores t.image c.epoch (memory_before t.image c.epoch) a
           → (o : Option ℕ) → d.outside a ≡ o → is_some o ≡ false
@@ -344,15 +320,6 @@ module _ (t : Turn) (v w : StoreView) (out : Outcome) (h : List Entry) (u : Flat
       path : OnPath t.image t.state.homefree (memory_before t.image t.state.homefree) here.after c.hart
       path = record { own = c.own; at = here; is = refl }
 
-      done : first_epochs t.image t.state.homefree ≡ record { end = end.Done t.state.homefree; bytes = memory_before t.image t.state.homefree }
-      done = done_before t.image t.state.homefree going.shown.before going.shown.done
-
-      number : epoch ≡ t.state.homefree
-      number = sym (epoch_is c at) ∙ homefree
-
-      next_runs : (d : ℕ) → epoch < d → IsInOrder t.image d → IsInOrder t.image (t.state.homefree + 1)
-      next_runs d low order = all_in_order t.image d (t.state.homefree + 1) order (omega (arith, low, number))
-
     committed : turn.IsCommit t v w out → ComesTo t.image t.state u t.core epoch out.answer
     committed l = answered epoch _ _ l.out_is (by_end (end_at t.image (t.state.homefree + 1)) refl)
       where
@@ -368,9 +335,6 @@ module _ (t : Turn) (v w : StoreView) (out : Outcome) (h : List Entry) (u : Flat
         passes_over : PassesOver t.image t.state t.core epoch
         passes_over = passes c at l.comes.homefree stop.Ended l.comes.is_at.event tt l.between l.hurt l.comes.publishes none
 
-        is_number : epoch ≡ t.state.homefree
-        is_number = sym (epoch_is c at) ∙ l.comes.homefree
-
         by_end : (o : Option End) → end_at t.image (t.state.homefree + 1) ≡ o → ComesTo t.image t.state u t.core epoch (left_or_over o)
         by_end None ends =
             let x = effect_on t.image t.state t.core c Commit in
@@ -378,7 +342,7 @@ module _ (t : Turn) (v w : StoreView) (out : Outcome) (h : List Entry) (u : Flat
             let none_ends : x.end ≡ None = ap (λ b. cond b (Some (end.Exit t.state.homefree)) (end_at t.image (t.state.homefree + 1))) l.stays ∙ ends in
             subst (λ (y : FlatState). HasCommitted t.image t.state y t.core epoch) (sym made) (record {
               quiet = quiet_without t.state x t.core quiet none_ends refl;
-              is_homefree = is_number;
+              is_homefree = number c at l.comes.homefree;
               homefree = refl;
               next = refl;
               idle = with_core_same t.state.cores t.core None;
@@ -386,8 +350,8 @@ module _ (t : Turn) (v w : StoreView) (out : Outcome) (h : List Entry) (u : Flat
               passes = passes_over;
             })
         by_end (Some e) ends = record {
-          is_homefree = is_number;
-          last = λ d low within order. let most = end_done t.image (t.state.homefree + 1) e ends in absurd (omega (arith, low, within, most, is_number));
+          is_homefree = number c at l.comes.homefree;
+          last = λ d low within order. let most = end_done t.image (t.state.homefree + 1) e ends in absurd (omega (arith, low, within, most, number c at l.comes.homefree));
           passes = passes_over;
         }
 
@@ -398,11 +362,11 @@ module _ (t : Turn) (v w : StoreView) (out : Outcome) (h : List Entry) (u : Flat
         let none = none_hurt l.hurt _ _ l.out_is in
         let event = l.comes.is_at.event in
         answered epoch _ _ l.out_is (record {
-          is_homefree = number c at l.comes.homefree stop.Ended event tt l.between l.hurt l.comes.publishes none;
+          is_homefree = number c at l.comes.homefree;
           last = λ d low within order.
               no_exit t.image t.state.homefree (memory_before t.image t.state.homefree) _ c.hart (path c at l.comes.homefree stop.Ended event tt l.between l.hurt l.comes.publishes none)
-              (done c at l.comes.homefree stop.Ended event tt l.between l.hurt l.comes.publishes none) event l.exits
-              (next_runs c at l.comes.homefree stop.Ended event tt l.between l.hurt l.comes.publishes none d low order);
+              done event l.exits
+              (next_runs (number c at l.comes.homefree) d low order);
           passes = passes c at l.comes.homefree stop.Ended event tt l.between l.hurt l.comes.publishes none;
         })
 
@@ -414,11 +378,11 @@ module _ (t : Turn) (v w : StoreView) (out : Outcome) (h : List Entry) (u : Flat
         let event = l.comes.is_at.event in
         let e = stop.Fault l.cause l.pc in
         answered epoch _ _ l.out_is (record {
-          is_homefree = number c at l.comes.homefree e event tt w l.hurt l.comes.publishes none;
+          is_homefree = number c at l.comes.homefree;
           last = λ d low within order.
               no_fault t.image t.state.homefree (memory_before t.image t.state.homefree) _ c.hart (path c at l.comes.homefree e event tt w l.hurt l.comes.publishes none)
-              (done c at l.comes.homefree e event tt w l.hurt l.comes.publishes none) l.cause l.pc event
-              (next_runs c at l.comes.homefree e event tt w l.hurt l.comes.publishes none d low order);
+              done l.cause l.pc event
+              (next_runs (number c at l.comes.homefree) d low order);
           passes = passes c at l.comes.homefree e event tt w l.hurt l.comes.publishes none;
         })
 
@@ -539,7 +503,7 @@ module _ (t : Turn) (v w : StoreView) (out : Outcome) (h : List Entry) (u : Flat
     keeps_follow : turn.Follows t v w out → Keeps t u out
     keeps_follow (turn.loads l) = keeps_load l
     keeps_follow (turn.stores l) = keeps_store l
-    keeps_follow (turn.waits l) = absurd (never t.core l.at l.cause (sym (ap (λ (y : Waits). wait_at y t.core l.at) waits) ∙ l.waits))
+    keeps_follow (turn.waits l) = absurd (wait_never t.core l.at l.cause (sym (ap (λ (y : Waits). wait_at y t.core l.at) waits) ∙ l.waits))
     keeps_follow (turn.loads_straight l) = absurd (true≢false (sym (l.waits (quiet.speculates t.core l.core l.comes.is_at.runs)) ∙ ap (λ (y : Waits). is_some (y.load t.core l.address l.width)) waits))
     keeps_follow (turn.stores_straight l) = absurd (true≢false (sym (l.waits (quiet.speculates t.core l.core l.comes.is_at.runs)) ∙ ap (λ (y : Waits). is_some (y.store t.core l.address l.width)) waits))
     keeps_follow (turn.is_early l) = keeps_same _ l.out_is (λ c at. at) (no_go NotHomefree)
@@ -551,5 +515,5 @@ module _ (t : Turn) (v w : StoreView) (out : Outcome) (h : List Entry) (u : Flat
     keeps (turn.starts l) = keeps_start l
     keeps (turn.finds_none l) = keeps_same _ l.out_is (λ c at. at) (no_go NoEpoch)
     keeps (turn.restarts l) = absurd (true≢false (sym l.hurt ∙ quiet.unhurt t.core l.core l.runs))
-    keeps (turn.is_told l) = absurd (not_stale t.next l.core.hart (hands l.core l.runs) l.stale)
+    keeps (turn.is_told l) = absurd (stale_not t.next l.core.hart l.stale (hands l.core l.runs))
     keeps (turn.follows l) = keeps_follow l
