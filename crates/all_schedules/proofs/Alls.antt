@@ -1,11 +1,11 @@
 -- What every schedule of a text comes to, from what it comes to for its image.
-use Rattle.std.proofs.Common.{◌≡◌, ℕ, List, Option, Result, Ok, Err, MatchResult, sym, subst, inr}
-use Rattle.rv32_image.specs.declared.fault.ImageFault.{ImageFault}
+use Rattle.std.proofs.Common.{◌≡◌, ℕ, List, Option, Result, Ok, Err, MatchResult, inr}
 use Rattle.rv32_image.specs.declared.fault.ImageFaultKind.{ImageFaultKind}
 use Rattle.rv32_image.specs.declared.fault.ImageFaultKind.TheVariants as kind
 use Rattle.rv32_image.specs.Image.{LoadedImage}
 use Rattle.rv32_image.specs.ImageText.{image_text}
 use Rattle.rv32_image.specs.Reading.{IsReadFaultOf}
+use Rattle.rv32_image.proofs.Inputs.{by_image}
 use Rattle.violations.specs.View.{StoreView, Waits}
 use Rattle.violations.specs.Calls.{Call}
 use Rattle.trace_commands.specs.declared.outcome.Outcome.{Outcome}
@@ -19,18 +19,15 @@ use Rattle.all_schedules.specs.AllSchedules.{AllAnswers, IsUnwritten, IsUnwritte
 use Rattle.trace_commands.specs.Program.{Stream}
 
 module _ {S : Type 0} (starts : LoadedImage → ℕ → S → Type 0) (makes : S → Call → S → Type 0) (view : S → StoreView) (waits : S → Waits) (cores : ℕ) (settings : Settings) (turns : ℕ) (text : List ℕ) (image : LoadedImage) (old new : Option (List ℕ)) (said : image_text text ≡ Ok image) where
-  by_image : (P : LoadedImage → Type 0) → P image → MatchResult (image_text text) P (λ fault. ⊥)
-  by_image P is = subst (λ (r : Result LoadedImage ImageFault). MatchResult r P (λ fault. ⊥)) (sym said) is
-
   unwritten_of : (outcome : Outcome) → IsUnwrittenOf starts makes view waits (loop_with image cores settings) turns old new outcome → IsUnwritten starts makes view waits cores settings turns text old new outcome
   unwritten_of (BadImage fault) is = absurd is
   unwritten_of (Stopped NoMemory) is = is.1
-  unwritten_of outcome is = by_image (λ i. IsUnwrittenOf starts makes view waits (loop_with i cores settings) turns old new outcome) is
+  unwritten_of outcome is = by_image text image (λ i. IsUnwrittenOf starts makes view waits (loop_with i cores settings) turns old new outcome) said is
 
   pub of_image : {A : Type 0} (result : Result A Outcome)
       → MatchResult result (λ _. IsWrittenOf starts makes view waits (loop_with image cores settings) turns old new) (IsUnwrittenOf starts makes view waits (loop_with image cores settings) turns old new)
       → MatchResult result (λ _. IsWritten starts makes view waits cores settings turns text old new) (IsUnwritten starts makes view waits cores settings turns text old new)
-  of_image (Ok done) is = by_image (λ i. IsWrittenOf starts makes view waits (loop_with i cores settings) turns old new) is
+  of_image (Ok done) is = by_image text image (λ i. IsWrittenOf starts makes view waits (loop_with i cores settings) turns old new) said is
   of_image (Err outcome) is = unwritten_of outcome is
 
 module _ {S : Type 0} (starts : LoadedImage → ℕ → S → Type 0) (makes : S → Call → S → Type 0) (view : S → StoreView) (waits : S → Waits) (cores : ℕ) (settings : Settings) (turns : ℕ) (output errors : Stream) where

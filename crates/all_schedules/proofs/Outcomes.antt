@@ -1,12 +1,11 @@
 -- What the replay of a text comes to, from what its parts answer.
 use Rattle.std.proofs.Common.{◌≡◌, ℕ, ◌<◌, List, length, Option, Some, None, Result, Ok, IfSome, MatchResult, inl, refl, sym, subst}
-use Rattle.rv32_image.specs.declared.fault.ImageFault.{ImageFault}
 use Rattle.rv32_image.specs.declared.input.InputFault.{InputFault}
 use Rattle.rv32_image.specs.declared.input.InputFault.TheVariants as input
 use Rattle.rv32_image.specs.Image.{LoadedImage}
 use Rattle.rv32_image.specs.ImageText.{image_text}
 use Rattle.rv32_image.specs.Reading.{ForText}
-use Rattle.rv32_image.proofs.Inputs.{long_text}
+use Rattle.rv32_image.proofs.Inputs.{long_text, by_image}
 use Rattle.spec_history.specs.declared.entry.Entry.{Entry}
 use Rattle.violations.specs.View.{StoreView, Waits}
 use Rattle.violations.specs.Calls.{Call}
@@ -21,16 +20,11 @@ use Rattle.all_schedules.specs.Settings.{RunsWith, loop_with}
 use Rattle.all_schedules.specs.Replay.{IsReplayOutcome, OfText}
 use Rattle.all_schedules.specs.Turns.{image_part, schedule_text}
 
--- what holds of the image that the text says
-pub by_image : (text : List ℕ) (image : LoadedImage) (P : LoadedImage → Type 0) → image_text (image_part text) ≡ Ok image → P image
-    → MatchResult (image_text (image_part text)) P (λ fault. ⊥)
-by_image text image P said is = subst (λ (r : Result LoadedImage ImageFault). MatchResult r P (λ fault. ⊥)) (sym said) is
-
--- and of the schedule
+-- what holds of the image that the text says, and of the schedule
 pub by_text : (cores : ℕ) (settings : Settings) (text : List ℕ) (image : LoadedImage) (schedule : List ℕ) (P : Loop → List ℕ → Type 0) → image_text (image_part text) ≡ Ok image
     → RunsWith image cores settings → schedule_text cores text ≡ Ok schedule → P (loop_with image cores settings) schedule → OfText cores settings text P
 by_text cores settings text image schedule P said allowed turns is =
-    by_image text image (λ l. RunsWith l cores settings × MatchResult (schedule_text cores text) (P (loop_with l cores settings)) (λ fault. ⊥)) said
+    by_image (image_part text) image (λ l. RunsWith l cores settings × MatchResult (schedule_text cores text) (P (loop_with l cores settings)) (λ fault. ⊥)) said
     (allowed, subst (λ (r : Result (List ℕ) TraceFault). MatchResult r (P (loop_with image cores settings)) (λ fault. ⊥)) (sym turns) is)
 
 -- ---- an input that could not be read whole

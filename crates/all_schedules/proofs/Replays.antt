@@ -3,6 +3,7 @@ use Rattle.std.proofs.Common.{◌≡◌, ◌⊎◌, ℕ, Bool, true, false, List
 use Rattle.std.proofs.Math.Seq.{take-length}
 use Rattle.rv32_image.specs.Image.{LoadedImage}
 use Rattle.rv32_image.specs.ImageText.{image_text}
+use Rattle.rv32_image.proofs.Inputs.{by_image}
 use Rattle.rv32_exec.specs.declared.sequential.End.{End}
 use Rattle.spec_history.specs.declared.entry.Entry.{Entry}
 use Rattle.violations.specs.View.{StoreView, Waits}
@@ -32,7 +33,7 @@ use Rattle.all_schedules.specs.Traced.{IsNoRetrace, IsNotRetraced, IsNotSame, Is
 use Rattle.homefree.specs.Retraced.{turns_of}
 use Rattle.all_schedules.specs.Turns.{image_part, schedule_text}
 use Rattle.all_schedules.proofs.Coming.{comes_by}
-use Rattle.all_schedules.proofs.Outcomes.{by_image, by_text}
+use Rattle.all_schedules.proofs.Outcomes.{by_text}
 
 module _ {S : Type 0} (starts : LoadedImage → ℕ → S → Type 0) (makes : S → Call → S → Type 0) (view : S → StoreView) (waits : S → Waits) (heads : Loop → List ℕ → List Entry → List ℕ → Type 0) where
   -- all turns of a schedule are its first
@@ -91,7 +92,7 @@ module _ {S : Type 0} (starts : LoadedImage → ℕ → S → Type 0) (makes : S
   -- the machine can't run the image
   pub lines_cannot : (cores : ℕ) (settings : Settings) (text : List ℕ) (old : Option (List ℕ)) (image : LoadedImage) → image_text (image_part text) ≡ Ok image → (RunsWith image cores settings → ⊥)
       → IsLinesOutcome starts makes view waits heads cores settings text old old Usage
-  lines_cannot cores settings text old image said cannot = (by_image text image (λ i. RunsWith i cores settings → ⊥) said cannot, keeps_itself old)
+  lines_cannot cores settings text old image said cannot = (by_image (image_part text) image (λ i. RunsWith i cores settings → ⊥) said cannot, keeps_itself old)
 
   -- the lines of turns are refused
   pub turns_refused : (cores : ℕ) (settings : Settings) (text : List ℕ) (old : Option (List ℕ)) (line : ℕ) (kind : TraceFaultKind) (image : LoadedImage) → image_text (image_part text) ≡ Ok image → RunsWith image cores settings
@@ -100,7 +101,7 @@ module _ {S : Type 0} (starts : LoadedImage → ℕ → S → Type 0) (makes : S
   turns_refused cores settings text old line trace.Read image said allowed is = absurd is
   turns_refused cores settings text old line trace.NoMemory image said allowed is = inl (keeps_itself old)
   turns_refused cores settings text old line kind image said allowed is =
-      (by_image text image (λ l. RunsWith l cores settings × (schedule_text cores text ≡ Err (record { line = line; kind = kind }))) said (allowed, is), keeps_itself old)
+      (by_image (image_part text) image (λ l. RunsWith l cores settings × (schedule_text cores text ≡ Err (record { line = line; kind = kind }))) said (allowed, is), keeps_itself old)
 
   -- ---- a trace
 
