@@ -1,12 +1,12 @@
 -- What the program answers, from what its parts do.
-use Rattle.std.proofs.Common.{◌≡◌, ℕ, ◌+◌, List, Option, Some, None, Result, Ok, Err, MatchResult, refl, sym, subst, inr}
-use Rattle.rv32_image.specs.declared.fault.ImageFault.{ImageFault}
+use Rattle.std.proofs.Common.{◌≡◌, ℕ, ◌+◌, List, Option, Some, None, Result, Ok, Err, MatchResult, refl, subst, inr}
 use Rattle.rv32_image.specs.declared.fault.ImageFaultKind.{ImageFaultKind}
 use Rattle.rv32_image.specs.declared.fault.ImageFaultKind.TheVariants as kind
 use Rattle.rv32_image.specs.Image.{LoadedImage}
 use Rattle.rv32_image.specs.ImageText.{image_text, longest_image_text}
 use Rattle.rv32_image.specs.Input.{TakesAtMost}
 use Rattle.rv32_image.specs.Reading.{ForText, IsReadFaultOf}
+use Rattle.rv32_image.proofs.Inputs.{by_image}
 use Rattle.trace_commands.specs.declared.outcome.Outcome.{Outcome}
 use Rattle.trace_commands.specs.declared.outcome.Outcome.TheVariants.{BadImage, Stopped, Usage}
 use Rattle.trace_commands.specs.declared.outcome.CommandStop.TheVariants.{NoMemory}
@@ -21,18 +21,15 @@ use Rattle.depends.specs.Work.{AskedAnswers, WorkAnswers}
 -- ---- of an image
 
 module _ (cores : ℕ) (stores : List (List ℕ)) (room : ℕ) (text : List ℕ) (image : LoadedImage) (old new : Option (List ℕ)) (said : image_text text ≡ Ok image) where
-  by_image : (P : LoadedImage → Type 0) → P image → MatchResult (image_text text) P (λ fault. ⊥)
-  by_image P is = subst (λ (r : Result LoadedImage ImageFault). MatchResult r P (λ fault. ⊥)) (sym said) is
-
   unwritten_of : (outcome : Outcome) → IsUnwrittenOf image cores stores room old new outcome → IsUnwritten cores stores room text old new outcome
   unwritten_of (BadImage fault) is = absurd is
   unwritten_of (Stopped NoMemory) is = is
-  unwritten_of outcome is = by_image (λ i. IsUnwrittenOf i cores stores room old new outcome) is
+  unwritten_of outcome is = by_image text image (λ i. IsUnwrittenOf i cores stores room old new outcome) said is
 
   pub of_image : {A : Type 0} (result : Result A Outcome)
       → MatchResult result (λ _. IsWrittenOf image cores stores room old new) (IsUnwrittenOf image cores stores room old new)
       → MatchResult result (λ _. IsWritten cores stores room text old new) (IsUnwritten cores stores room text old new)
-  of_image (Ok done) is = by_image (λ i. IsWrittenOf i cores stores room old new) is
+  of_image (Ok done) is = by_image text image (λ i. IsWrittenOf i cores stores room old new) said is
   of_image (Err outcome) is = unwritten_of outcome is
 
 -- the image is refused

@@ -1,12 +1,12 @@
 -- What the program answers, from what its parts do.
-use Rattle.std.proofs.Common.{◌≡◌, ℕ, ◌+◌, List, [], Option, Some, None, Result, Ok, Err, MatchResult, refl, sym, subst, inr, arith}
-use Rattle.rv32_image.specs.declared.fault.ImageFault.{ImageFault}
+use Rattle.std.proofs.Common.{◌≡◌, ℕ, ◌+◌, List, [], Option, Some, None, Result, Ok, Err, MatchResult, refl, sym, subst, inr}
 use Rattle.rv32_image.specs.declared.fault.ImageFaultKind.{ImageFaultKind}
 use Rattle.rv32_image.specs.declared.fault.ImageFaultKind.TheVariants as kind
 use Rattle.rv32_image.specs.Image.{LoadedImage}
 use Rattle.rv32_image.specs.ImageText.{image_text, longest_image_text}
 use Rattle.rv32_image.specs.Input.{TakesAtMost}
 use Rattle.rv32_image.specs.Reading.{ForText, IsReadFaultOf}
+use Rattle.rv32_image.proofs.Inputs.{by_image}
 use Rattle.trace_commands.specs.declared.outcome.Outcome.{Outcome}
 use Rattle.trace_commands.specs.declared.outcome.Outcome.TheVariants.{BadImage, Stopped, Usage}
 use Rattle.trace_commands.specs.declared.outcome.CommandStop.TheVariants.{NoMemory}
@@ -22,18 +22,15 @@ use Rattle.gain.specs.Work.{AskedAnswers, WorkAnswers}
 -- ---- of an image
 
 module _ (study : Study) (addresses : List ℕ) (stores : List (List ℕ)) (text : List ℕ) (image : LoadedImage) (old new : Option (List ℕ)) (said : image_text text ≡ Ok image) where
-  by_image : (P : LoadedImage → Type 0) → P image → MatchResult (image_text text) P (λ fault. ⊥)
-  by_image P is = subst (λ (r : Result LoadedImage ImageFault). MatchResult r P (λ fault. ⊥)) (sym said) is
-
   unwritten_of : (outcome : Outcome) → IsUnwrittenOf image study addresses stores old new outcome → IsUnwritten study addresses stores text old new outcome
   unwritten_of (BadImage fault) is = absurd is
   unwritten_of (Stopped NoMemory) is = is
-  unwritten_of outcome is = by_image (λ i. IsUnwrittenOf i study addresses stores old new outcome) is
+  unwritten_of outcome is = by_image text image (λ i. IsUnwrittenOf i study addresses stores old new outcome) said is
 
   pub of_image : {A : Type 0} (result : Result A Outcome)
       → MatchResult result (λ _. IsWrittenOf image study addresses stores old new) (IsUnwrittenOf image study addresses stores old new)
       → MatchResult result (λ _. IsWritten study addresses stores text old new) (IsUnwritten study addresses stores text old new)
-  of_image (Ok done) is = by_image (λ i. IsWrittenOf i study addresses stores old new) is
+  of_image (Ok done) is = by_image text image (λ i. IsWrittenOf i study addresses stores old new) said is
   of_image (Err outcome) is = unwritten_of outcome is
 
 -- the image is refused
@@ -55,10 +52,6 @@ no_memory study addresses stores None output errors status is line =
     ([], unwritten_answers study addresses stores (kept output) errors [] (Stopped NoMemory) status is line (keeps_itself output))
 no_memory study addresses stores (Some text) output errors status is line =
     unwritten_answers study addresses stores (kept output) errors text (Stopped NoMemory) status is line (keeps_itself output)
-
-pub none_taken : (known : Option (List ℕ)) → TakesAtMost known known (longest_image_text + 1)
-none_taken None = ([], tt, omega arith)
-none_taken (Some text) = ([], refl, omega arith)
 
 -- ---- of the words
 
