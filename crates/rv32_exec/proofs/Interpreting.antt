@@ -1,21 +1,22 @@
 -- One instruction of the interpreter's loop is one of the epoch.
-use Rattle.std.proofs.Common.{◌≡◌, ◌⊎◌, inl, inr, ℕ, suc, ◌+◌, ◌-◌, ◌*◌, ◌/◌, ◌%◌, ◌<◌, ◌≤◌, ◌^◌, ◌==◌, cond, nat_le, nat_lt, Bool, true, false, true≢false, List, length, Some, Result, Ok, Err, slice_get, slice_index, refl, sym, ap, ◌∙◌, arith}
+use Rattle.std.proofs.Common.{◌≡◌, ◌⊎◌, inl, inr, ℕ, suc, ◌+◌, ◌-◌, ◌*◌, ◌/◌, ◌%◌, ◌<◌, ◌≤◌, ◌^◌, ◌==◌, cond, nat_le, nat_lt, Bool, true, false, true≢false, List, length, Some, Result, Ok, Err, slice_get, slice_index, refl, sym, ap, subst, ◌∙◌, arith}
 use Rattle.std.proofs.lemmas.Bool.Decides.{nat_tests}
 use Rattle.rv32_decode.specs.declared.instr.Instr.{Instr}
 use Rattle.rv32_decode.specs.declared.refused.Refused.{Refused}
 use Rattle.rv32_decode.specs.declared.refused.Refused.TheVariants.{Illegal, System}
 use Rattle.rv32_decode.specs.Table.{meaning_of}
-use Rattle.rv32_exec.specs.Hart.{HartState, epoch_end}
-use Rattle.memory_bytes.specs.Bytes.{number_at}
+use Rattle.rv32_exec.specs.Hart.{HartState, epoch_end, stepped}
+use Rattle.memory_bytes.specs.Bytes.{number_at, with_number}
 use Rattle.rv32_image.specs.Decoded.{IsDecoded, kept_of, trap, word_in}
 use Rattle.rv32_image.proofs.Kept.{kept_at}
 use Rattle.rv32_image.specs.Image.{LoadedImage, IsImage}
 use Rattle.rv32_exec.specs.declared.stop.Stop.{Stop}
 use Rattle.rv32_exec.specs.declared.stop.Stop.TheVariants.{Load, Store, Ended, Fault}
-use Rattle.rv32_exec.specs.Execute.{Effect, Executes, Stops, add, instruction_effect, word_effect, hart_effect}
+use Rattle.rv32_exec.specs.Execute.{Effect, Executes, Stops, add, after_load, instruction_effect, word_effect, hart_effect}
 use Rattle.rv32_exec.specs.Sequential.{Runs, execute, after_steps}
 use Rattle.rv32_exec.proofs.Runs.{next_event-executes}
-use Rattle.rv32_exec.specs.Interpreter.{IsAnAccess, IsFaulting, IsPlace, IsRun, LeadsTo, Leads, after_effect, hart, hart_at, is_whole, left_by}
+use Rattle.rv32_exec.specs.Interpreter.{IsAnAccess, IsFaulting, IsLoadOf, IsPlace, IsRun, IsStoreOf, LeadsTo, Leads, after_effect, hart, hart_at, is_whole, left_by}
+use Rattle.rv32_exec.specs.declared.interpreter.Left.{Left}
 use Rattle.rv32_exec.specs.declared.interpreter.Why.TheVariants as why
 use Rattle.rv32_exec.specs.declared.instruction.Way.TheVariants as way
 use Rattle.rv32_exec.specs.Faults.{illegal_word, misaligned_target, system_instruction}
@@ -120,6 +121,8 @@ pub on : (image : LoadedImage) (is_near : Bool) (x x' : List ℕ) (word last to 
     → (4 * word < image.code → word < last → (pc ≡ 4 * to) × (last' + word + 1 ≡ last + to))
     → (4 * word < image.code) × (word < last)
     × LeadsTo image (hart_at image x (record { word = word; last = last })) memory (hart_at image x' (record { word = to; last = last' })) memory'
+    × (hart_effect image (hart_at image x (record { word = word; last = last })) ≡ e)
+    × (hart x' pc (word + image.limit - last + 1) ≡ hart_at image x' (record { word = to; last = last' }))
 on image is_near x x' word last to last' pc memory memory' e here is runs executes goes =
     let done = word + image.limit - last in
     let other : kept_effect image x word done ≡ trapped word → ⊥ =
@@ -134,6 +137,8 @@ on image is_near x x' word last to last' pc memory memory' e here is runs execut
       room,
       leads_on image (hart x (4 * word) done) (hart x' (4 * to) (to + image.limit - last')) memory memory' below counted
           (rw (hart_does, counted, ← there.0) runs) (λ none. rw (hart_does, counted, ← there.0) (executes none)),
+      hart_does,
+      rw (there.0, counted) refl,
     )
 
 -- the instruction that stands there
@@ -160,22 +165,114 @@ pub followed : (image : LoadedImage) (is_near : Bool) (x x' : List ℕ) (word la
     → Leads image word (hart x (4 * word) (word + image.limit - last)) memory (instruction_effect image (hart x (4 * word) (word + image.limit - last)) (λ r. slice_index x r) instr) way.Following at x' memory'
     → (4 * word < image.code) × (word < last)
     × LeadsTo image (hart_at image x (record { word = word; last = last })) memory (hart_at image x' (record { word = word + 1; last = last })) memory'
+    × (hart_effect image (hart_at image x (record { word = word; last = last })) ≡ Executes (hart_at image x' (record { word = word + 1; last = last })))
 followed image is_near x x' word last memory memory' instr at stands leads =
-    on image is_near x x' word last (word + 1) last ((4 * word + 4) % 2 ^ 32) memory memory' _ stands.here
-    (ap (λ i. instruction_effect image (hart x (4 * word) (word + image.limit - last)) (λ r. slice_index x r) i) stands.kept) leads.0 leads.1
-    (λ inside room. (omega (arith, inside, stands.here.ok.code_most, stands.here.ok.size_most), omega arith))
+    let done = word + image.limit - last in
+    let it = on image is_near x x' word last (word + 1) last ((4 * word + 4) % 2 ^ 32) memory memory' _ stands.here
+    (ap (λ i. instruction_effect image (hart x (4 * word) done) (λ r. slice_index x r) i) stands.kept)
+    (ap (after_effect (hart x (4 * word) done) memory) leads.0 ∙ ap (Runs (hart x' ((4 * word + 4) % 2 ^ 32) (done + 1))) (sym leads.1)) (λ none. leads.0)
+    (λ inside room. (omega (arith, inside, stands.here.ok.code_most, stands.here.ok.size_most), omega arith)) in
+    (it.0, it.1, it.2, it.3 ∙ (leads.0 ∙ ap Executes it.4))
 
 pub jumped : (image : LoadedImage) (is_near : Bool) (x x' : List ℕ) (word last to : ℕ) (memory memory' : List ℕ) (instr : Instr) → Stands image is_near word last instr
     → instruction_effect image (hart x (4 * word) (word + image.limit - last)) (λ r. slice_index x r) instr ≡ Executes (hart x' (4 * to) (word + image.limit - last + 1))
     → memory' ≡ memory
     → (4 * word < image.code) × (word < last)
     × LeadsTo image (hart_at image x (record { word = word; last = last })) memory (hart_at image x' (record { word = to; last = last + to - word - 1 })) memory'
+    × (hart_effect image (hart_at image x (record { word = word; last = last })) ≡ Executes (hart_at image x' (record { word = to; last = last + to - word - 1 })))
 jumped image is_near x x' word last to memory memory' instr stands effect same =
     let done = word + image.limit - last in
-    on image is_near x x' word last to (last + to - word - 1) (4 * to) memory memory' _ stands.here
+    let it = on image is_near x x' word last to (last + to - word - 1) (4 * to) memory memory' _ stands.here
     (ap (λ i. instruction_effect image (hart x (4 * word) done) (λ r. slice_index x r) i) stands.kept)
     (ap (after_effect (hart x (4 * word) done) memory) effect ∙ ap (Runs (hart x' (4 * to) (done + 1))) (sym same)) (λ none. effect)
-    (λ inside room. (refl, omega (arith, room)))
+    (λ inside room. (refl, omega (arith, room))) in
+    (it.0, it.1, it.2, it.3 ∙ (effect ∙ ap Executes it.4))
+
+-- ---- notes on a run
+
+-- what is right of a hart, and stays so where it executes an instruction that is no load or store
+abbrev pub StaysRight : LoadedImage → (HartState → List ℕ → Type 0) → Type 0
+StaysRight image right = (h after : HartState) (memory : List ℕ) → hart_effect image h ≡ Executes after → right h memory → right after memory
+
+pub still_right : (image : LoadedImage) (right : HartState → List ℕ → Type 0) (h after : HartState) (memory memory' : List ℕ) → StaysRight image right
+    → hart_effect image h ≡ Executes after → memory' ≡ memory → right h memory → right after memory'
+still_right image right h after memory memory' stays executes same is = rw same (stays h after memory executes is)
+
+-- ---- loads and stores
+
+-- an instruction loads, and leads from one hart to another
+pub record IsLoaded (image : LoadedImage) (h h' : HartState) (memory memory' : List ℕ) (address width : ℕ) : Type 0 where
+  pub signed : Bool
+  pub rd : ℕ
+  pub stops : hart_effect image h ≡ Stops (Load address width signed rd)
+  pub hart_is : after_load h width signed rd (number_at (λ a. slice_index memory a) address width) ≡ h'
+  pub same : memory' ≡ memory
+
+-- it stores
+pub record IsStored (image : LoadedImage) (h h' : HartState) (memory memory' : List ℕ) (address width : ℕ) : Type 0 where
+  pub value : ℕ
+  pub stops : hart_effect image h ≡ Stops (Store address width value)
+  pub hart_is : stepped h ≡ h'
+  pub memory_is : with_number memory address width value ≡ memory'
+
+loaded_by : (image : LoadedImage) (h after h' : HartState) (memory memory' : List ℕ) (e : Effect) (address width : ℕ) → hart_effect image h ≡ e → after_effect h memory e ≡ Runs after memory'
+    → IsLoadOf e address width → after ≡ h' → IsLoaded image h h' memory memory' address width
+loaded_by image h after h' memory memory' (Executes other) address width is runs of there = absurd of
+loaded_by image h after h' memory memory' (Stops (Load from wide signed rd)) address width is runs of there =
+    let wide_is = of.1 in
+    let from_is = of.0 in
+    let hart_is : after_load h wide signed rd (number_at (λ a. slice_index memory a) from wide) ≡ after = cc in record {
+      signed = signed;
+      rd = rd;
+      stops = subst (λ w. hart_effect image h ≡ Stops (Load address w signed rd)) wide_is (subst (λ a. hart_effect image h ≡ Stops (Load a wide signed rd)) from_is is);
+      hart_is = subst (λ w. after_load h w signed rd (number_at (λ a. slice_index memory a) address w) ≡ h') wide_is
+          (subst (λ f. after_load h wide signed rd (number_at (λ a. slice_index memory a) f wide) ≡ h') from_is (hart_is ∙ there));
+      same = cc;
+    }
+loaded_by image h after h' memory memory' (Stops (Store from wide value)) address width is runs of there = absurd of
+loaded_by image h after h' memory memory' (Stops Ended) address width is runs of there = absurd of
+loaded_by image h after h' memory memory' (Stops (Fault cause pc)) address width is runs of there = absurd of
+
+stored_by : (image : LoadedImage) (h after h' : HartState) (memory memory' : List ℕ) (e : Effect) (address width : ℕ) → hart_effect image h ≡ e → after_effect h memory e ≡ Runs after memory'
+    → IsStoreOf e address width → after ≡ h' → IsStored image h h' memory memory' address width
+stored_by image h after h' memory memory' (Executes other) address width is runs of there = absurd of
+stored_by image h after h' memory memory' (Stops (Load from wide signed rd)) address width is runs of there = absurd of
+stored_by image h after h' memory memory' (Stops (Store from wide value)) address width is runs of there =
+    let wide_is = of.1 in
+    let from_is = of.0 in
+    let hart_is : stepped h ≡ after = cc in
+    let memory_is : with_number memory from wide value ≡ memory' = cc in record {
+      value = value;
+      stops = subst (λ w. hart_effect image h ≡ Stops (Store address w value)) wide_is (subst (λ a. hart_effect image h ≡ Stops (Store a wide value)) from_is is);
+      hart_is = hart_is ∙ there;
+      memory_is = subst (λ w. with_number memory address w value ≡ memory') wide_is (subst (λ f. with_number memory f wide value ≡ memory') from_is memory_is);
+    }
+stored_by image h after h' memory memory' (Stops Ended) address width is runs of there = absurd of
+stored_by image h after h' memory memory' (Stops (Fault cause pc)) address width is runs of there = absurd of
+
+pub loaded_on : (image : LoadedImage) (is_near : Bool) (x x' : List ℕ) (word last address width : ℕ) (memory memory' : List ℕ) (instr : Instr) (at : Stop) → Stands image is_near word last instr
+    → Leads image word (hart x (4 * word) (word + image.limit - last)) memory (instruction_effect image (hart x (4 * word) (word + image.limit - last)) (λ r. slice_index x r) instr) (way.Loaded address width) at x' memory'
+    → (4 * word < image.code) × (word < last)
+    × LeadsTo image (hart_at image x (record { word = word; last = last })) memory (hart_at image x' (record { word = word + 1; last = last })) memory'
+    × IsLoaded image (hart_at image x (record { word = word; last = last })) (hart_at image x' (record { word = word + 1; last = last })) memory memory' address width
+loaded_on image is_near x x' word last address width memory memory' instr at stands leads =
+    let done = word + image.limit - last in
+    let it = on image is_near x x' word last (word + 1) last ((4 * word + 4) % 2 ^ 32) memory memory' _ stands.here
+    (ap (λ i. instruction_effect image (hart x (4 * word) done) (λ r. slice_index x r) i) stands.kept) leads.0 (λ none. absurd (leads.2 none))
+    (λ inside room. (omega (arith, inside, stands.here.ok.code_most, stands.here.ok.size_most), omega arith)) in
+    (it.0, it.1, it.2, loaded_by image (hart x (4 * word) done) _ _ memory memory' _ address width it.3 leads.0 leads.1 it.4)
+
+pub stored_on : (image : LoadedImage) (is_near : Bool) (x x' : List ℕ) (word last address width : ℕ) (memory memory' : List ℕ) (instr : Instr) (at : Stop) → Stands image is_near word last instr
+    → Leads image word (hart x (4 * word) (word + image.limit - last)) memory (instruction_effect image (hart x (4 * word) (word + image.limit - last)) (λ r. slice_index x r) instr) (way.Stored address width) at x' memory'
+    → (4 * word < image.code) × (word < last)
+    × LeadsTo image (hart_at image x (record { word = word; last = last })) memory (hart_at image x' (record { word = word + 1; last = last })) memory'
+    × IsStored image (hart_at image x (record { word = word; last = last })) (hart_at image x' (record { word = word + 1; last = last })) memory memory' address width
+stored_on image is_near x x' word last address width memory memory' instr at stands leads =
+    let done = word + image.limit - last in
+    let it = on image is_near x x' word last (word + 1) last ((4 * word + 4) % 2 ^ 32) memory memory' _ stands.here
+    (ap (λ i. instruction_effect image (hart x (4 * word) done) (λ r. slice_index x r) i) stands.kept) leads.0 (λ none. absurd (leads.2 none))
+    (λ inside room. (omega (arith, inside, stands.here.ok.code_most, stands.here.ok.size_most), omega arith)) in
+    (it.0, it.1, it.2, stored_by image (hart x (4 * word) done) _ _ memory memory' _ address width it.3 leads.0 leads.1 it.4)
 
 -- a place of the loop, and that after a jump
 pub place_here : (image : LoadedImage) (is_near : Bool) (word last : ℕ) → IsHere image is_near word last → 4 * word ≤ image.code → IsPlace image (record { word = word; last = last })
@@ -264,6 +361,7 @@ pub jumped_by : (image : LoadedImage) (is_near : Bool) (x x' : List ℕ) (word l
     → (4 * word < image.code) × (word < last)
     × LeadsTo image (hart_at image x (record { word = word; last = last })) memory
     (hart_at image x' (record { word = (word + by) % 2 ^ 30; last = last + (word + by) % 2 ^ 30 - word - 1 })) memory'
+    × (hart_effect image (hart_at image x (record { word = word; last = last })) ≡ Executes (hart_at image x' (record { word = (word + by) % 2 ^ 30; last = last + (word + by) % 2 ^ 30 - word - 1 })))
 jumped_by image is_near x x' word last by memory memory' instr at stands leads whole =
     jumped image is_near x x' word last ((word + by) % 2 ^ 30) memory memory' instr stands (leads.0 whole) leads.1
 
@@ -293,3 +391,19 @@ left_by_run image is_near h first x x' word last by memory memory' instr at stan
         leads = so_far;
         ends = faulting_at image is_near x word last misaligned_target instr stands faults.1;
       })
+
+-- what is right there
+pub left_by_right : (image : LoadedImage) (right : HartState → List ℕ → Type 0) (is_near : Bool) (x x' : List ℕ) (word last by : ℕ) (memory memory' : List ℕ) (instr : Instr) (at : Stop)
+    → StaysRight image right → Stands image is_near word last instr
+    → Leads image word (hart x (4 * word) (word + image.limit - last)) memory (instruction_effect image (hart x (4 * word) (word + image.limit - last)) (λ r. slice_index x r) instr) (way.By by) at x' memory'
+    → right (hart_at image x (record { word = word; last = last })) memory
+    → right (hart_at image x' (left_by (record { word = word; last = last }) by).place) memory'
+left_by_right image right is_near x x' word last by memory memory' instr at stays stands leads is = by_test (is_whole by) refl where
+  by_test : (b : Bool) → is_whole by ≡ b → right (hart_at image x' (cond {A = Left} b (record {
+    place = record { word = (word + by) % 2 ^ 30; last = last + (word + by) % 2 ^ 30 - word - 1 };
+    why = why.Outside;
+  }) (record { place = record { word = word; last = last }; why = why.Fault misaligned_target })).place) memory'
+  by_test true whole =
+      let it = jumped_by image is_near x x' word last by memory memory' instr at stands leads whole in
+      still_right image right (hart_at image x (record { word = word; last = last })) _ memory memory' stays it.3 leads.1 is
+  by_test false odd = let faults = leads.2 odd in rw (faults.0, leads.1) is

@@ -4,7 +4,7 @@ use Rattle.rv32_exec.specs.Faults.{misaligned_target}
 use Rattle.rv32_exec.specs.declared.stop.Stop.{Stop}
 use Rattle.rv32_exec.specs.declared.stop.Stop.TheVariants as stop
 use Rattle.rv32_exec.specs.declared.instruction.Way.{Way}
-use Rattle.rv32_exec.specs.declared.instruction.Way.TheVariants.{Following, By, To, Fault, Access}
+use Rattle.rv32_exec.specs.declared.instruction.Way.TheVariants.{Following, By, To, Loaded, Stored, Fault, Access}
 use Rattle.rv32_exec.specs.declared.interpreter.Left.{Left}
 use Rattle.rv32_exec.specs.declared.interpreter.Why.{Why}
 use Rattle.rv32_exec.specs.declared.interpreter.Why.TheVariants as why
@@ -41,16 +41,35 @@ IsAnAccess (stop.Fault cause pc) = ⊥
 abbrev pub is_whole : ℕ → Bool
 is_whole by = nat_lt ((by + 2 ^ 29) % 2 ^ 64) (2 ^ 30)
 
+-- the effect is a stop at a load of so many bytes from this address on
+abbrev pub IsLoadOf : Effect → ℕ → ℕ → Type 0
+IsLoadOf (Executes after) address width = ⊥
+IsLoadOf (Stops (stop.Load from wide signed rd)) address width = (from ≡ address) × (wide ≡ width)
+IsLoadOf (Stops (stop.Store from wide value)) address width = ⊥
+IsLoadOf (Stops stop.Ended) address width = ⊥
+IsLoadOf (Stops (stop.Fault cause pc)) address width = ⊥
+
+-- it is one at a store
+abbrev pub IsStoreOf : Effect → ℕ → ℕ → Type 0
+IsStoreOf (Executes after) address width = ⊥
+IsStoreOf (Stops (stop.Load from wide signed rd)) address width = ⊥
+IsStoreOf (Stops (stop.Store from wide value)) address width = (from ≡ address) × (wide ≡ width)
+IsStoreOf (Stops stop.Ended) address width = ⊥
+IsStoreOf (Stops (stop.Fault cause pc)) address width = ⊥
+
 -- the instruction of this word, with this effect, leads to these registers and this memory, and to the word that the answer says, or it faults
 -- or stops at an access; where there is no memory, no load or store is made
 abbrev pub Leads : LoadedImage → ℕ → HartState → List ℕ → Effect → Way → Stop → List ℕ → List ℕ → Type 0
 Leads image word h memory effect Following at x memory' =
-    (after_effect h memory effect ≡ Runs (hart x ((h.pc + 4) % 2 ^ 32) (h.done + 1)) memory')
-    × (length memory ≡ 0 → effect ≡ Executes (hart x ((h.pc + 4) % 2 ^ 32) (h.done + 1)))
+    (effect ≡ Executes (hart x ((h.pc + 4) % 2 ^ 32) (h.done + 1))) × (memory' ≡ memory)
 Leads image word h memory effect (By by) at x memory' =
     (is_whole by ≡ true → effect ≡ Executes (hart x (4 * ((word + by) % 2 ^ 30)) (h.done + 1))) × (memory' ≡ memory)
     × (is_whole by ≡ false → (x ≡ h.x) × (effect ≡ Stops (stop.Fault misaligned_target h.pc)))
 Leads image word h memory effect (To to) at x memory' = (effect ≡ Executes (hart x (4 * to) (h.done + 1))) × (memory' ≡ memory)
+Leads image word h memory effect (Loaded address width) at x memory' =
+    (after_effect h memory effect ≡ Runs (hart x ((h.pc + 4) % 2 ^ 32) (h.done + 1)) memory') × IsLoadOf effect address width × (length memory ≡ 0 → ⊥)
+Leads image word h memory effect (Stored address width) at x memory' =
+    (after_effect h memory effect ≡ Runs (hart x ((h.pc + 4) % 2 ^ 32) (h.done + 1)) memory') × IsStoreOf effect address width × (length memory ≡ 0 → ⊥)
 Leads image word h memory effect (Fault cause) at x memory' = (x ≡ h.x) × (memory' ≡ memory) × (effect ≡ Stops (stop.Fault cause h.pc))
 Leads image word h memory effect Access at x memory' =
     (x ≡ h.x) × (memory' ≡ memory) × (effect ≡ Stops at) × IsAnAccess at × (length memory < image.size)
@@ -60,6 +79,8 @@ abbrev pub Lands : Way → Type 0
 Lands Following = Unit {0}
 Lands (By by) = (by + 2 ^ 29) % 2 ^ 64 < 2 ^ 31
 Lands (To to) = to < 2 ^ 30
+Lands (Loaded address width) = Unit {0}
+Lands (Stored address width) = Unit {0}
 Lands (Fault cause) = Unit {0}
 Lands Access = Unit {0}
 

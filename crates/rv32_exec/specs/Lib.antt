@@ -5,8 +5,9 @@ pub mod Hart
 pub mod Execute
 pub mod NextEvent
 pub mod Sequential
--- Words of contracts: Arrival (what `advance` answers) and Laws (what the laws say).
+-- Words of contracts: Arrival (what `advance` answers), Notes (what is told of a run) and Laws (what the laws say).
 pub mod Arrival
+pub mod Notes
 pub mod Laws
 -- What the code keeps: Registers (those of a hart) and Interpreter (how its loop runs).
 pub mod Registers

@@ -5,6 +5,7 @@ ghost use Rattle.rv32_exec.specs.Hart.{stepped};
 ghost use Rattle.rv32_exec.specs.Execute.{IsStopOf};
 
 use crate::hart::Hart;
+use crate::notes::NoNotes;
 use crate::stop::Stop;
 use rv32_image::Image;
 use std::marker::Model;
@@ -161,7 +162,7 @@ fn run_on(image: &Image, hart: &mut Hart, at: &mut Stop)
     ensures later { hart.old.done ≤ hart.new.done }
 {
     // With no memory at hand it stops at an access to data.
-    hart.run(image, &mut [], at);
+    hart.run(image, &mut [], at, &mut NoNotes);
 }
 
 /// The hart after the load at which it stopped. `number` is that of the bytes that were loaded, little endian; its

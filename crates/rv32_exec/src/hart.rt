@@ -4,10 +4,12 @@ ghost use Rattle.rv32_exec.specs.Execute.{Stops, after_load, hart_effect};
 ghost use Rattle.rv32_exec.specs.Interpreter.{IsFar, IsLeft, IsNoAccess, IsPlace, LeadsTo, hart_at};
 ghost use Rattle.rv32_exec.specs.Sequential.{exits};
 ghost use Rattle.memory_bytes.specs.Bytes.{IsWidth};
+ghost use Rattle.rv32_image.specs.Image.{IsImage};
 
 use crate::access::extend;
 use crate::instruction::address;
 use crate::interpreter::{Place, Why, run_code, stop, stop_outside};
+use crate::notes::Notes;
 use crate::registers::Registers;
 use crate::stop::{EPOCH_END, Stop};
 use rv32_decode::{Destination, Register};
@@ -142,79 +144,125 @@ impl Hart {
         self.write(rd, extend(width, signed, number));
     }
 
+    /// Runs it over memory up to its end or fault, which it answers, and tells `notes` of each load and store.
+    pub fn run_to_end<N: Notes>(&mut self, image: &Image, bytes: &mut [u8], notes: &mut N) -> Stop
+        requires limits { IsImage image.now }
+        requires size { length bytes.old ≡ image.now.size }
+        requires right { N.right image.now notes.old self.old bytes.old }
+        ensures stop { hart_effect image.now self.new ≡ Stops result }
+        ensures end { IsNoAccess result }
+        ensures size { length bytes.new ≡ image.now.size }
+        ensures fixed { N.fixed notes.new ≡ N.fixed notes.old }
+        ensures right { N.right image.now notes.new self.new bytes.new }
+    {
+        let mut at = Stop::Ended;
+        self.run(image, bytes, &mut at, notes);
+        at
+    }
+
     /// Runs it over memory up to its next stop, and sets `at` to that. `bytes` is memory from address 0 on as far as it is at hand: it
     /// stops at a load or a store past it.
     #[inline]
-    pub(crate) fn run(&mut self, image: &Image, bytes: &mut [u8], at: &mut Stop)
+    pub(crate) fn run<N: Notes>(
+        &mut self,
+        image: &Image,
+        bytes: &mut [u8],
+        at: &mut Stop,
+        notes: &mut N,
+    )
         requires size { length bytes.old ≤ image.now.size }
         requires words { length bytes.old % 4 ≡ 0 }
+        requires right { N.right image.now notes.old self.old bytes.old }
         ensures stop { hart_effect image.now self.new ≡ Stops at.new }
         ensures whole { length bytes.old ≡ image.now.size → IsNoAccess at.new }
         ensures leads { LeadsTo image.now self.old bytes.old self.new bytes.new }
         ensures limit { image.now.limit ≤ 1000000 }
+        ensures fixed { N.fixed notes.new ≡ N.fixed notes.old }
+        ensures right { N.right image.now notes.new self.new bytes.new }
     {
         let (pc, done) = (self.pc, self.done);
         if done > u64::from(image.limit()) || pc > image.code() {
             *at = stop_outside(image, pc, done);
             return;
         }
-        self.run_far(image, at, (pc / 4) as usize, bytes);
+        self.run_far(image, at, (pc / 4) as usize, bytes, notes);
     }
 
     /// The same of a hart that has come to this word. Up to where the limit is near, only a jump has to look for it: each run through
     /// the code ends before the limit.
     #[inline(never)]
-    fn run_far(&mut self, image: &Image, at: &mut Stop, word: usize, bytes: &mut [u8])
+    fn run_far<N: Notes>(
+        &mut self,
+        image: &Image,
+        at: &mut Stop,
+        word: usize,
+        bytes: &mut [u8],
+        notes: &mut N,
+    )
         requires word { 4 * word ≡ self.old.pc }
         requires code { self.old.pc ≤ image.now.code }
         requires limit { self.old.done ≤ image.now.limit }
         requires size { length bytes.old ≤ image.now.size }
         requires words { length bytes.old % 4 ≡ 0 }
+        requires right { N.right image.now notes.old self.old bytes.old }
         ensures stop { hart_effect image.now self.new ≡ Stops at.new }
         ensures whole { length bytes.old ≡ image.now.size → IsNoAccess at.new }
         ensures leads { LeadsTo image.now self.old bytes.old self.new bytes.new }
+        ensures fixed { N.fixed notes.new ≡ N.fixed notes.old }
+        ensures right { N.right image.now notes.new self.new bytes.new }
     {
         let done = self.done;
         let from = Place::of(image, word, done);
         if from.is_near(image) {
-            return self.run_near(image, at, word, bytes);
+            return self.run_near(image, at, word, bytes, notes);
         }
-        let why = self.run_from(from, image, at, false, bytes);
+        let why = self.run_from(from, image, at, false, bytes, notes);
         let (pc, done) = (self.pc, self.done);
         if let Why::Near = why {
-            return self.run_near(image, at, (pc / 4) as usize, bytes);
+            return self.run_near(image, at, (pc / 4) as usize, bytes, notes);
         }
         stop(image, pc, done, why, at);
     }
 
     /// The same, where the limit may come before the end of the code.
     #[inline(never)]
-    fn run_near(&mut self, image: &Image, at: &mut Stop, word: usize, bytes: &mut [u8])
+    fn run_near<N: Notes>(
+        &mut self,
+        image: &Image,
+        at: &mut Stop,
+        word: usize,
+        bytes: &mut [u8],
+        notes: &mut N,
+    )
         requires word { 4 * word ≡ self.old.pc }
         requires code { self.old.pc ≤ image.now.code }
         requires limit { self.old.done ≤ image.now.limit }
         requires size { length bytes.old ≤ image.now.size }
         requires words { length bytes.old % 4 ≡ 0 }
+        requires right { N.right image.now notes.old self.old bytes.old }
         ensures stop { hart_effect image.now self.new ≡ Stops at.new }
         ensures whole { length bytes.old ≡ image.now.size → IsNoAccess at.new }
         ensures leads { LeadsTo image.now self.old bytes.old self.new bytes.new }
+        ensures fixed { N.fixed notes.new ≡ N.fixed notes.old }
+        ensures right { N.right image.now notes.new self.new bytes.new }
     {
         let done = self.done;
         let from = Place::of(image, word, done);
-        let why = self.run_from(from, image, at, true, bytes);
+        let why = self.run_from(from, image, at, true, bytes, notes);
         let (pc, done) = (self.pc, self.done);
         stop(image, pc, done, why, at);
     }
 
     /// Runs the loop over the code, from the place where it is, and answers why that has ended.
     #[inline(always)]
-    fn run_from(
+    fn run_from<N: Notes>(
         &mut self,
         from: Place,
         image: &Image,
         at: &mut Stop,
         is_near: bool,
         bytes: &mut [u8],
+        notes: &mut N,
     ) -> Why
         requires from { hart_at image.now self.old.x from ≡ self.old }
         requires place { IsPlace image.now from }
@@ -222,11 +270,14 @@ impl Hart {
         requires near { is_near ≡ false → image.now.code ≤ 4 * from.last }
         requires size { length bytes.old ≤ image.now.size }
         requires words { length bytes.old % 4 ≡ 0 }
+        requires right { N.right image.now notes.old self.old bytes.old }
         ensures left { IsLeft image.now (length bytes.old) self.new result at.new }
         ensures leads { LeadsTo image.now self.old bytes.old self.new bytes.new }
         ensures far { is_near ≡ true → IsFar result }
+        ensures fixed { N.fixed notes.new ≡ N.fixed notes.old }
+        ensures right { N.right image.now notes.new self.new bytes.new }
     {
-        let left = run_code(image, &mut self.x, from, is_near, bytes, at);
+        let left = run_code(image, &mut self.x, from, is_near, bytes, at, notes);
         self.x.settle();
         self.x.look();
         let (pc, done) = (address(&self.x, left.place.word), left.place.done(image));

@@ -15,7 +15,7 @@ use memory_bytes::{low_bytes, read_number, write_number};
 use rv32_decode::{Destination, Instr, Offset, Register};
 use rv32_image::Image;
 
-/// Where a hart goes after an instruction. Each is a number at most: a larger answer would cost LLVM work at each instruction.
+/// Where a hart goes after an instruction.
 #[derive(Clone, Copy)]
 pub(crate) enum Way {
     /// To the instruction that follows.
@@ -24,6 +24,10 @@ pub(crate) enum Way {
     By(usize),
     /// To this word.
     To(usize),
+    /// To the instruction that follows: it was a load, made, of so many bytes from this address on.
+    Loaded { addr: u32, width: u32 },
+    /// The same of a store.
+    Stored { addr: u32, width: u32 },
     /// Nowhere: it faults with this cause, and nothing has changed.
     Fault(u32),
     /// Nowhere: its access is not made, and nothing has changed.
@@ -239,7 +243,7 @@ fn load(
         return Way::Access;
     }
     x.put(rd, extend(width, signed, read_number(bytes, place, width)));
-    Way::Following
+    Way::Loaded { addr, width }
 }
 
 /// Stores the low `width` bytes of the value, unless it faults or is past these bytes; `at` is then that store.
@@ -270,5 +274,5 @@ fn store(image: &Image, bytes: &mut [u8], at: &mut Stop, addr: u32, width: u32, 
         return Way::Fault(STORE_OUTSIDE_DATA);
     }
     write_number(bytes, place, width, low_bytes(width, value));
-    Way::Following
+    Way::Stored { addr, width }
 }

@@ -6,6 +6,7 @@ ghost use Rattle.rv32_exec.specs.Interpreter as spec;
 
 use crate::access::fault;
 use crate::instruction::{Way, address, execute, is_whole};
+use crate::notes::Notes;
 use crate::registers::Registers;
 use crate::stop::*;
 use rv32_decode::Refused;
@@ -41,6 +42,15 @@ impl Place {
         ensures { result ≡ false → image.now.code ≤ 4 * self.last }
     {
         self.last < (image.code() / 4) as usize
+    }
+
+    /// The address of the word that is next.
+    #[inline]
+    fn pc(self) -> u32
+        requires { 4 * self.word < 2 ^ 32 }
+        ensures { result ≡ 4 * self.word }
+    {
+        4 * self.word as u32
     }
 
     /// How many instructions of the epoch are executed.
@@ -101,22 +111,27 @@ pub(crate) struct Left {
 /// Runs instructions up to the next stop, and where that is an access sets `at` to it. Where the limit is near it looks for it at each,
 /// and else only at a jump, and ends where the limit has become near.
 #[inline(always)]
-pub(crate) fn run_code(
+pub(crate) fn run_code<N: Notes>(
     image: &Image,
     x: &mut Registers,
     from: Place,
     is_near: bool,
     bytes: &mut [u8],
     at: &mut Stop,
+    notes: &mut N,
 ) -> Left
     requires place { spec.IsPlace image.now from }
     requires in_code { 4 * from.word ≤ image.now.code }
     requires far { is_near ≡ false → image.now.code ≤ 4 * from.last }
     requires size { length bytes.old ≤ image.now.size }
     requires words { length bytes.old % 4 ≡ 0 }
+    requires right { N.right image.now notes.old (spec.hart_at image.now x.old.x from) bytes.old }
     ensures run { spec.IsRun image.now (spec.hart_at image.now x.old.x from) bytes.old result at.new x.new.x bytes.new }
     ensures far { is_near ≡ true → spec.IsFar result.why }
+    ensures fixed { N.fixed notes.new ≡ N.fixed notes.old }
+    ensures right { N.right image.now notes.new (spec.hart_at image.now x.new.x result.place) bytes.new }
 {
+    N::others_need_no_note();
     let program = image.program();
     let words = (image.code() / 4) as usize;
     let Place { mut word, mut last } = from;
@@ -126,6 +141,16 @@ pub(crate) fn run_code(
         }
         match execute(&program[word], word, image, x, bytes, at) {
             Way::Following => word += 1,
+            Way::Loaded { addr, width } => {
+                let place = Place { word, last };
+                notes.load(image, place.pc(), place.done(image), addr, width);
+                word += 1;
+            }
+            Way::Stored { addr, width } => {
+                let place = Place { word, last };
+                notes.store(image, place.pc(), place.done(image), addr, width);
+                word += 1;
+            }
             Way::By(by) => {
                 let to = word.wrapping_add(by);
                 if to >= words {

@@ -7,12 +7,14 @@ mod hart;
 mod instruction;
 mod interpreter;
 pub mod laws;
+mod notes;
 mod registers;
 mod sequential;
 mod stop;
 
 pub use arrived::{Arrived, advance, loaded, stored};
 pub use hart::{Hart, start};
+pub use notes::Notes;
 pub use rv32_image::{
     Image, ImageFault, ImageFaultKind, InputFault, LONGEST_IMAGE_TEXT, Limits, Machine, NoMemory,
     Version, image_of, read_image, read_input,

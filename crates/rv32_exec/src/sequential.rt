@@ -3,6 +3,7 @@ ghost use Rattle.rv32_exec.specs.Sequential as spec;
 ghost use Rattle.rv32_image.specs.Image.{IsImage};
 
 use crate::hart::{Hart, start};
+use crate::notes::NoNotes;
 use crate::stop::Stop;
 use rv32_image::{Image, NoMemory};
 use std::alloc::Global;
@@ -86,7 +87,7 @@ fn run_epoch(image: &Image, epoch: u32, bytes: &mut [u8]) -> End
 {
     let mut hart = start(image, epoch);
     let mut at = Stop::Ended;
-    hart.run(image, bytes, &mut at);
+    hart.run(image, bytes, &mut at, &mut NoNotes);
     match at {
         Stop::Ended => end_of(image, epoch, &hart),
         Stop::Fault { cause, pc } => End::Fault { epoch, cause, pc },
