@@ -20,7 +20,8 @@ use Rattle.spec_history.proofs.OneEntry.Keeping.{with_core_same, with_core_other
 use Rattle.spec_history.proofs.OneEntry.Going.{others_speculate}
 use Rattle.spec_history.proofs.OneEntry.Entries.{store_as}
 use Rattle.dependences.specs.Conflict.{Conflict, PathReads, memory_before, path_memory}
-use Rattle.dependences.proofs.Paths.{IsAt, either, past_load, past_store, path_stores, reads_there}
+use Rattle.dependences.specs.KeptRun.{IsAt}
+use Rattle.dependences.proofs.Paths.{either, past_load, past_store, path_stores, reads_there}
 use Rattle.dependences.proofs.Windows.{IsInWindow}
 use Rattle.dependences.proofs.Starting.{IsOrderly, OnPath, beside, core_reached, cores_with, unwritten, whatever_shown}
 

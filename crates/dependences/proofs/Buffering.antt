@@ -27,7 +27,8 @@ use Rattle.dependences.specs.Conflict.{AreBeside, AreFalling, IsInOrder, StoresI
 use Rattle.dependences.specs.Shared.{IsShared, RunBeside, SharedOverflowInOrder, TouchesIn}
 use Rattle.dependences.specs.KeptLines.{AreLines, AreLinesMarked, IsLastOf, LastTwo, StoresInLine}
 use Rattle.dependences.specs.KeptTouches.{AreShares, AreSoMany, AreTouches, AreTouchesKept, IsCount, IsEarly, IsInside, IsNear, IsSharedLine, StoresBefore, Touched, TouchesBefore, TouchesInLine, after_store, after_touch}
-use Rattle.dependences.proofs.Paths.{IsAt, access_stops, at_start, covered, either, load_after, loads_there, past_load, past_store, path_stores, same_store, start_after, store_after, stores_there}
+use Rattle.dependences.specs.KeptWatch.{InBuffers, SharesSoFar, StoredSoFar, TouchedSoFar}
+use Rattle.dependences.proofs.Paths.{access_stops, at_start, covered, either, load_after, loads_there, past_load, past_store, path_stores, same_store, start_after, store_after, stores_there}
 use Rattle.dependences.proofs.Windows.{count_more}
 use Rattle.dependences.proofs.Meetings.{passing}
 use Rattle.dependences.proofs.InOrder.{all_in_order}
@@ -47,16 +48,6 @@ read_other xs i r n within is other same =
     let equal : get_or xs i r ≡ get_or xs i 0 = cc in other (is ∙ (equal ∙ same))
 
 -- ---- what this epoch has touched so far, and in which lines it has stored
-
-abbrev TouchedSoFar : LoadedImage → ℕ → ℕ → List ℕ → ℕ → ℕ → Type 0
-TouchedSoFar image cores epoch last line d = TouchesBefore image cores epoch line d ⊎ ((d ≡ epoch) × (slice_index last line ≡ epoch + 1))
-
-abbrev StoredSoFar : LoadedImage → ℕ → ℕ → List ℕ → ℕ → ℕ → Type 0
-StoredSoFar image cores epoch stored line d = StoresBefore image cores epoch line d ⊎ ((d ≡ epoch) × (slice_index stored line ≡ epoch + 1))
-
-abbrev SharesSoFar : LoadedImage → ℕ → ℕ → Touched → Type 0
-SharesSoFar image cores epoch t =
-    AreShares (line_count image) cores image.machine.buffer_lines (epoch + 1) (TouchedSoFar image cores epoch t.two.last) (StoredSoFar image cores epoch t.stored) t
 
 -- of a list whose entry of one line changes to this epoch
 module _ (A : ℕ → ℕ → Type 0) (epoch line : ℕ) (old new : List ℕ) (here : slice_index new line ≡ epoch + 1) (others : (l : ℕ) → l ≢ line → slice_index new l ≡ slice_index old l) where
@@ -129,17 +120,6 @@ module _ (image : LoadedImage) (cores epoch line : ℕ) (t : Touched) (inside : 
 
 -- ---- while the epoch runs
 
-pub record InBuffers (image : LoadedImage) (cores epoch : ℕ) (memory now : List ℕ) (t : Touched) (h : HartState) : Type 0 where
-  pub stored : ℕ → Option ℕ
-  pub at : IsAt image epoch memory h stored
-  pub is : at.after ≡ now
-  pub long : AreTouches image t
-  pub shares : SharesSoFar image cores epoch t
-  pub touched : (line : ℕ) → slice_index t.two.last line ≡ epoch + 1 → TouchesIn image epoch memory line
-  pub all_touched : (a step : ℕ) → step < h.done → LoadsAt image epoch memory step a ⊎ StoresAt image epoch memory step a → slice_index t.two.last (line_number image a) ≡ epoch + 1
-  pub noted : (line : ℕ) → slice_index t.stored line ≡ epoch + 1 → (a : ℕ) × (byte : ℕ) × (line_number image a ≡ line) × (stored a ≡ Some byte)
-  pub all : (a byte : ℕ) → stored a ≡ Some byte → slice_index t.stored (line_number image a) ≡ epoch + 1
-
 -- at first nobody has touched a line
 pub kept_first : (image : LoadedImage) (cores : ℕ) (t : Touched) → AreLines image t.two → length t.stored ≡ line_count image → length t.counts ≡ image.epochs
     → ((l : ℕ) → slice_index t.two.last l ≡ 0) → ((l : ℕ) → slice_index t.stored l ≡ 0) → ((e : ℕ) → slice_index t.counts e ≡ 0) → t.full ≡ false → AreTouchesKept image cores 0 t
@@ -159,10 +139,6 @@ kept_first image cores t lines stored counts no_last no_stored no_count clear = 
   };
   clear = clear;
 }
-
--- nobody later has touched a line
-pub last_so_far : (image : LoadedImage) (cores epoch : ℕ) (t : Touched) → SharesSoFar image cores epoch t → (line : ℕ) → slice_index t.two.last line ≤ epoch + 1
-last_so_far image cores epoch t shares line = last_low (TouchedSoFar image cores epoch t.two.last line) (epoch + 1) (slice_index t.two.last line) (shares.last line)
 
 -- no epoch from this one on has touched a line yet
 module _ (image : LoadedImage) (cores epoch : ℕ) (t : Touched) (kept : AreTouchesKept image cores epoch t) where

@@ -20,8 +20,9 @@ use Rattle.dependences.specs.Paths.{LoadsAt, ReadsOutside, StoresAt}
 use Rattle.dependences.specs.Conflict.{IsInOrder, memory_before}
 use Rattle.dependences.specs.Flow.{AreDependences, DependsAt, IsBefore, IsDependence, LastStore}
 use Rattle.dependences.specs.Kept.{AreAll}
-use Rattle.dependences.specs.KeptStores.{AreBefore, AreLong, AreMarked, IsNearest, IsNearestByte, IsNoted, IsStoredLast, Stores, AreStoresKept, dependence_of, noted}
-use Rattle.dependences.proofs.Paths.{IsAt, access_stops, at_start, before_event, covered, either, load_after, load_hart, loads_there, neither, past_load, past_store, same_store, start_after, store_after, store_hart, stores_there}
+use Rattle.dependences.specs.KeptStores.{AreBefore, AreMarked, IsNearest, IsNearestByte, IsNoted, IsStoredLast, Stores, AreStoresKept, dependence_of, noted}
+use Rattle.dependences.specs.KeptRun.{Flowing, IsAt, IsMine}
+use Rattle.dependences.proofs.Paths.{access_stops, at_start, before_event, covered, either, load_after, load_hart, loads_there, neither, past_load, past_store, same_store, start_after, store_after, store_hart, stores_there}
 use Rattle.dependences.proofs.Following.{all_loaded, all_stored_early, hart_before, hart_there, load_late, no_both, store_late, unmarked}
 use Rattle.dependences.proofs.Outside.{OnPath, read_by_load, read_by_store, seen_now}
 
@@ -83,13 +84,6 @@ last_on image epoch a (suc w) stored pc is none =
       is.1,
     )
 
--- the epoch has stored the byte last at this step, of those so far
-pub record IsMine (image : LoadedImage) (epoch done a writer stored pc : ℕ) : Type 0 where
-  pub number : writer ≡ epoch + 1
-  pub there : StoresAt image epoch (memory_before image epoch) stored a
-  pub is : pc ≡ there.hart.pc
-  pub last : (step : ℕ) → step < done → StoresAt image epoch (memory_before image epoch) step a → step ≤ stored
-
 -- what is stored last stays so where no more is stored
 mine_on : (image : LoadedImage) (epoch done : ℕ) (h : HartState) (a writer stored' pc : ℕ) → h.done ≤ done
     → ((step : ℕ) → h.done ≤ step → step < done → StoresAt image epoch (memory_before image epoch) step a → ⊥)
@@ -103,16 +97,6 @@ mine_on image epoch done h a writer stored' pc more none mine = record {
     | inr from ↦ absurd (none step from low there)
   ];
 }
-
--- the epoch runs over memory, from this hart on
-pub record Flowing (image : LoadedImage) (epoch : ℕ) (memory : List ℕ) (s : Stores) (h : HartState) (found : List Dependence) : Type 0 where
-  pub own : ℕ → Option ℕ
-  pub at : IsAt image epoch (memory_before image epoch) h own
-  pub is : at.after ≡ memory
-  pub long : AreLong s image.size
-  pub mine : (a byte : ℕ) → own a ≡ Some byte → IsMine image epoch h.done a (slice_index s.writers a) (slice_index s.steps a) (slice_index s.pcs a)
-  pub others : (a : ℕ) → own a ≡ None → IsStoredLast image epoch a (slice_index s.writers a) (slice_index s.steps a) (slice_index s.pcs a)
-  pub list : AreBefore image epoch h.done found
 
 pub flowing_start : (image : LoadedImage) (epoch : ℕ) (memory : List ℕ) (s : Stores) (list : List Dependence) → length memory ≡ image.size
     → first_epochs image epoch ≡ record { end = end.Done epoch; bytes = memory } → AreStoresKept image epoch s list

@@ -21,23 +21,9 @@ use Rattle.dependences.specs.Paths.{LoadsAt, Stores, StoresAt}
 use Rattle.dependences.specs.Conflict.{IsInOrder, memory_before}
 use Rattle.dependences.specs.Nearest.{Depends, IsNearest}
 use Rattle.dependences.specs.Kept.{AreKept, DependsBefore, IsLastWriter, IsLeast, IsMarked, behind, load_behind}
-use Rattle.dependences.proofs.Paths.{IsAt, access_stops, at_start, covered, either, load_after, neither, now_step, past_load, past_store, path_stores, quiet, reads_there, start_after, store_after, to_event}
+use Rattle.dependences.specs.KeptRun.{DependsUpTo, Following, IsAt, before_it, by_it}
+use Rattle.dependences.proofs.Paths.{access_stops, at_start, covered, either, load_after, neither, now_step, past_load, past_store, path_stores, quiet, reads_there, start_after, store_after, to_event}
 use Rattle.dependences.proofs.Writers.{IsBehind, behind_is, is_behind, least_so, load_least}
-
--- an epoch before this one depends on another this far before it, or this one does, by what it has loaded so far
-pub data DependsUpTo (image : LoadedImage) (epoch done distance : ℕ) : Type 0 where
-  before_it : DependsBefore image epoch distance → DependsUpTo image epoch done distance
-  by_it : (earlier : ℕ) → epoch ≡ earlier + distance → (depends : Depends image earlier epoch) → depends.reads.step < done → DependsUpTo image epoch done distance
-
--- the epoch runs over memory, from this hart on
-pub record Following (image : LoadedImage) (epoch : ℕ) (memory writers : List ℕ) (h : HartState) (nearest : Option ℕ) : Type 0 where
-  pub own : ℕ → Option ℕ
-  pub at : IsAt image epoch (memory_before image epoch) h own
-  pub is : at.after ≡ memory
-  pub long : length writers ≡ image.size
-  pub mine : (a byte : ℕ) → own a ≡ Some byte → slice_index writers a ≡ epoch + 1
-  pub others : (a : ℕ) → own a ≡ None → IsLastWriter image epoch a (slice_index writers a)
-  pub least : IsLeast (DependsUpTo image epoch h.done) nearest
 
 -- ---- who wrote last
 

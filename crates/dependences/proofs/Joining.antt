@@ -9,7 +9,7 @@ use Rattle.dependences.specs.Pairs.{by_pcs, joins, pair_sum, sum_after, sum_with
 
 -- ---- the same pcs
 
-at_pcs : (store load : ℕ) (x : Dependence) → is_eq (by_pcs (x.store_pc, x.load_pc) (store, load)) ≡ joins store load x
+pub at_pcs : (store load : ℕ) (x : Dependence) → is_eq (by_pcs (x.store_pc, x.load_pc) (store, load)) ≡ joins store load x
 at_pcs store load x =
     is_eq_then (nat_lt x.store_pc store) (x.store_pc == store) (nat_cmp x.load_pc load) (less_apart x.store_pc store)
     ∙ ap (λ b. (x.store_pc == store) && b) (is_eq_by_tests (nat_lt x.load_pc load) (x.load_pc == load) (less_apart x.load_pc load))

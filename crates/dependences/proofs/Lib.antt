@@ -20,14 +20,16 @@ pub mod Meetings
 pub mod Violations
 -- What is kept of the run in order, and how near epochs depend on each other there.
 pub mod Writers
+pub mod Marking
 pub mod Following
-pub mod Arriving
 -- Epochs past the end: each alone, and whether it conflicts.
 pub mod Outside
 pub mod Ending
 -- The loads that depend on earlier epochs.
 pub mod Flowing
 pub mod Joining
+pub mod Readying
+pub mod Running
 -- The pieces of memory in which epochs store.
 pub mod Noting
 -- Lines of the caches: who stored in them, and who reads in them.
@@ -35,6 +37,7 @@ pub mod Lining
 mod Counting
 mod Sharing
 pub mod Buffering
+pub mod Watching
 pub mod Caching
 pub mod Words
 -- What no conflict says of histories.

@@ -16,8 +16,9 @@ use Rattle.spec_history.specs.Conflict.{line_number}
 use Rattle.spec_history.proofs.OneEntry.Accesses.{load_counts}
 use Rattle.dependences.specs.Paths.{ReadsOutside, Stores}
 use Rattle.dependences.specs.Conflict.{IsInOrder, LineConflictInOrder, first_beside, run_memory}
-use Rattle.dependences.specs.KeptLines.{AreLines, AreLinesKept, AreStored, IsLastOf, LastTwo, Lines, MeetsLine, MeetsNone, StoresInLine, other_before}
-use Rattle.dependences.proofs.Paths.{IsAt, at_start, covered, either, load_after, neither, past_load, past_store, path_stores, reads_there, start_after, store_after}
+use Rattle.dependences.specs.KeptLines.{AreLinesKept, AreStored, IsLastOf, LastTwo, Lines, MeetsLine, MeetsNone, StoresInLine, other_before}
+use Rattle.dependences.specs.KeptWatch.{InLines}
+use Rattle.dependences.proofs.Paths.{at_start, covered, either, load_after, neither, past_load, past_store, path_stores, reads_there, start_after, store_after}
 use Rattle.dependences.proofs.Following.{all_loaded, all_stored, unmarked}
 use Rattle.dependences.proofs.Outside.{OnPath, read_by_load, read_by_store, seen_now}
 use Rattle.dependences.proofs.SmallFacts.{either_some}
@@ -78,20 +79,6 @@ among image l address (suc width) = elim (cases_eq l (line_number image (address
 ]
 
 -- ---- while the epoch runs
-
-pub record InLines (image : LoadedImage) (cores epoch : ℕ) (memory now : List ℕ) (s : Lines) (h : HartState) : Type 0 where
-  pub stored : ℕ → Option ℕ
-  pub at : IsAt image epoch memory h stored
-  pub is : at.after ≡ now
-  pub own_long : length s.own ≡ image.size
-  pub lines : AreLines image s.two
-  pub mine : (a byte : ℕ) → stored a ≡ Some byte → slice_index s.own a ≡ epoch + 1
-  pub others : (a : ℕ) → stored a ≡ None → slice_index s.own a ≤ epoch
-  pub writer : (line : ℕ) → IsLastOf (StoresInLine image cores line) epoch (other_before s.two epoch line)
-  pub noted : (line : ℕ) → slice_index s.two.last line ≡ epoch + 1 → (a : ℕ) × (byte : ℕ) × (line_number image a ≡ line) × (stored a ≡ Some byte)
-  pub all : (a byte : ℕ) → stored a ≡ Some byte → slice_index s.two.last (line_number image a) ≡ epoch + 1
-  pub none : (a d : ℕ) → (reads : ReadsOutside image epoch memory a) → reads.step < h.done → first_beside cores epoch ≤ d → d < epoch
-      → StoresInLine image cores (line_number image a) d → ⊥
 
 not_noted : (image : LoadedImage) (cores epoch line : ℕ) (s : Lines) → AreLinesKept image cores epoch s → slice_index s.two.last line ≢ epoch + 1
 not_noted image cores epoch line s kept = let low = last_low (StoresInLine image cores line) epoch (slice_index s.two.last line) (kept.writer line) in omega (arith, low)

@@ -23,7 +23,8 @@ use Rattle.dependences.specs.KeptPieces.{AreBefore, AreMore, AreNoted, IsPieceOf
 use Rattle.dependences.specs.Stored.{AreStores, StoresInOrder}
 use Rattle.dependences.proofs.Following.{all_stored}
 use Rattle.dependences.proofs.Outside.{OnPath, seen_now}
-use Rattle.dependences.proofs.Paths.{IsAt, at_start, covered, either, load_after, past_load, past_store, path_stores, start_after, store_after}
+use Rattle.dependences.specs.KeptRun.{IsAt}
+use Rattle.dependences.proofs.Paths.{at_start, covered, either, load_after, past_load, past_store, path_stores, start_after, store_after}
 
 -- ---- a piece
 

@@ -22,7 +22,8 @@ use Rattle.dependences.specs.Paths.{ReadsOutside}
 use Rattle.dependences.specs.Conflict.{IsInOrder, memory_before}
 use Rattle.dependences.specs.Kept.{IsMarked, IsNext, MeetsWriter, next_runs}
 use Rattle.dependences.specs.Lengths.{Lasts}
-use Rattle.dependences.proofs.Paths.{IsAt, access_stops, at_start, covered, either, load_after, neither, past_load, past_store, reads_there, start_after, store_after, to_event}
+use Rattle.dependences.specs.KeptRun.{IsAt}
+use Rattle.dependences.proofs.Paths.{access_stops, at_start, covered, either, load_after, neither, past_load, past_store, reads_there, start_after, store_after, to_event}
 use Rattle.dependences.proofs.Following.{all_loaded, hart_there, load_late, no_both, same_load, unmarked}
 
 -- ---- what is read from outside up to the next event

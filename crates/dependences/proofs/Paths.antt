@@ -15,10 +15,10 @@ use Rattle.rv32_exec.specs.Sequential.{Runs, after_steps, execute, go_on}
 use Rattle.rv32_exec.proofs.Steps.{executes_counts}
 use Rattle.rv32_exec.proofs.Runs.{event_within_executes, event_within_stops, next_event-executes, next_event-stops}
 use Rattle.rv32_exec.proofs.LawsOfRuns.{Accesses, after_steps-+, next_event_reached, one_step}
-use Rattle.spec_history.specs.Laws.{Holds}
 use Rattle.spec_history.proofs.OneEntry.Progress.{comes_to_event, comes_past_access, no_steps}
 use Rattle.spec_history.proofs.OneEntry.Keeping.{start_runs}
 use Rattle.spec_history.proofs.OneEntry.Accesses.{load_goes_on, load_counts, store_goes_on, store_within, holds_stored}
+use Rattle.dependences.specs.KeptRun.{IsAt}
 use Rattle.dependences.specs.Paths.{LoadsAt, ReadsOutside, Stores, StoresAt}
 use Rattle.dependences.proofs.SmallFacts.{no_store_at_load}
 
@@ -72,14 +72,6 @@ quiet image (suc j) h g memory memory' at before runs stops =
     quiet_by image j h g memory memory' (hart_effect image h) refl before runs (λ x b r. quiet image j x g memory memory' at b r stops)
 
 -- ---- on the path
-
--- the epoch is on its path over this memory: it has come to this hart, and these are the bytes that it has stored
-pub record IsAt (image : LoadedImage) (epoch : ℕ) (memory : List ℕ) (h : HartState) (own : ℕ → Option ℕ) : Type 0 where
-  pub after : List ℕ
-  pub runs : after_steps image h.done (start_of image epoch) memory ≡ Runs h after
-  pub holds : Holds image (over own (λ a. slice_index memory a)) after
-  pub early : (a byte : ℕ) → own a ≡ Some byte → (step : ℕ) × (step < h.done) × StoresAt image epoch memory step a
-  pub no_others : (a step : ℕ) → own a ≡ None → step < h.done → StoresAt image epoch memory step a → ⊥
 
 -- so the path stores these bytes
 pub path_stores : {image : LoadedImage} {epoch : ℕ} {memory : List ℕ} {h : HartState} {own : ℕ → Option ℕ} → IsAt image epoch memory h own

@@ -13,7 +13,8 @@ use Rattle.spec_history.specs.Laws.{IsKept}
 use Rattle.spec_history.proofs.OneEntry.Keeping.{at_core, with_core_other}
 use Rattle.spec_history.proofs.OneEntry.Going.{Going}
 use Rattle.dependences.specs.Conflict.{AreBeside, Conflict, IsInOrder, PathReads, PathStores, first_beside, memory_before, path_memory}
-use Rattle.dependences.proofs.Paths.{IsAt, at_start}
+use Rattle.dependences.specs.KeptRun.{IsAt}
+use Rattle.dependences.proofs.Paths.{at_start}
 use Rattle.dependences.proofs.Windows.{IsInWindow}
 
 -- a core is on the path of its epoch: with its own bytes, or, once it has published, with those that are shown

@@ -5,7 +5,7 @@ use Rattle.rv32_exec.specs.Hart.{HartState}
 use Rattle.dependences.specs.declared.flow.Dependence.{Dependence}
 use Rattle.dependences.specs.Paths.{StoresAt}
 use Rattle.dependences.specs.Conflict.{memory_before}
-use Rattle.dependences.specs.Kept.{IsMarked}
+use Rattle.dependences.specs.Kept.{IsMarked, nearer}
 use Rattle.dependences.specs.Flow.{DependsAt, IsBefore, IsDependence, LastStore}
 
 -- of each byte: the epoch of its last store and 1, or 0 for none; the instructions done there; and its pc
@@ -47,17 +47,34 @@ abbrev pub IsNearestByte : List ℕ → ℕ → ℕ → ℕ → Option ℕ → T
 IsNearestByte writers epoch address width (Some byte) = IsNearest writers epoch address width byte
 IsNearestByte writers epoch address width None = (a : ℕ) → address ≤ a → a < address + width → slice_index writers a ≤ epoch → slice_index writers a ≡ 0
 
--- the dependence of a load of this hart's by this byte
-abbrev pub dependence_of : Stores → ℕ → HartState → ℕ → Dependence
-dependence_of s epoch h byte = record {
+-- the dependence of a load at this pc, after so many instructions, by this byte
+abbrev pub dependence_at : Stores → ℕ → ℕ → ℕ → ℕ → Dependence
+dependence_at s epoch pc done byte = record {
   earlier = slice_index s.writers byte - 1;
   stored = slice_index s.steps byte;
   store_pc = slice_index s.pcs byte;
   later = epoch;
-  loaded = h.done;
-  load_pc = h.pc;
+  loaded = done;
+  load_pc = pc;
   byte = byte;
 }
+
+-- of a load of this hart's
+abbrev pub dependence_of : Stores → ℕ → HartState → ℕ → Dependence
+dependence_of s epoch h byte = dependence_at s epoch h.pc h.done byte
+
+-- the nearest of this, and of the last writer of this byte
+abbrev pub nearer_by : List ℕ → ℕ → ℕ → Option ℕ → Option ℕ
+nearer_by writers epoch byte nearest = nearer nearest (Some (epoch + 1 - slice_index writers byte))
+
+-- after a load, how near epochs depend on each other, and the dependences
+abbrev pub nearest_after : List ℕ → ℕ → Option ℕ → Option ℕ → Option ℕ
+nearest_after writers epoch None nearest = nearest
+nearest_after writers epoch (Some byte) nearest = nearer_by writers epoch byte nearest
+
+abbrev pub noted_at : Stores → ℕ → ℕ → ℕ → Option ℕ → List Dependence → List Dependence
+noted_at s epoch pc done None list = list
+noted_at s epoch pc done (Some byte) list = list ++ dependence_at s epoch pc done byte ∷ []
 
 abbrev pub noted : Stores → ℕ → HartState → Option ℕ → List Dependence → List Dependence
 noted s epoch h None list = list

@@ -9,11 +9,16 @@ pub mod Laws
 pub mod Nearest
 pub mod Flow
 pub mod Pairs
+pub mod Summed
 pub mod Stored
 pub mod Lengths
 -- What the code keeps.
 pub mod Kept
+pub mod KeptMarks
 pub mod KeptStores
+pub mod KeptRun
+pub mod KeptPairs
 pub mod KeptLines
 pub mod KeptTouches
+pub mod KeptWatch
 pub mod KeptPieces

@@ -1,8 +1,7 @@
 -- What the dependences have in common that two instructions, a store and a load, join.
-use Rattle.std.specs.Prelude.{◌≡◌, ℕ, ◌+◌, ◌-◌, ◌==◌, ◌&&◌, Bool, List, [], ◌∷◌, Option, Some, None, min, max, if◌then◌else◌}
+use Rattle.std.specs.Prelude.{ℕ, ◌+◌, ◌-◌, ◌==◌, ◌&&◌, Bool, List, [], ◌∷◌, Option, Some, None, min, max, if◌then◌else◌}
 use Rattle.std.specs.declared.cmp.Ordering.{Ordering}
-use Rattle.std.specs.BTreeMap.{BTreeMap, get}
-use Rattle.std.specs.Ordering.{is_eq, nat_cmp, ordering_then}
+use Rattle.std.specs.Ordering.{nat_cmp, ordering_then}
 use Rattle.dependences.specs.declared.flow.Dependence.{Dependence}
 use Rattle.dependences.specs.declared.pairs.PairSum.{PairSum}
 
@@ -41,8 +40,3 @@ sum_after store load sum (x ∷ rest) = sum_after store load (if joins store loa
 
 abbrev pub pair_sum : ℕ → ℕ → List Dependence → Option PairSum
 pair_sum store load list = sum_after store load None list
-
--- the sum of this one's pair has it now, and the others stay
-abbrev pub IsNoted : BTreeMap (ℕ × ℕ) PairSum → BTreeMap (ℕ × ℕ) PairSum → Dependence → Type 0
-IsNoted old new x = (store load : ℕ)
-    → get by_pcs new (store, load) ≡ (if is_eq (by_pcs (x.store_pc, x.load_pc) (store, load)) then sum_with (get by_pcs old (x.store_pc, x.load_pc)) x else get by_pcs old (store, load))

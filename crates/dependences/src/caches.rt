@@ -1,4 +1,4 @@
-ghost use Rattle.std.specs.Prelude.{◌≡◌, ℕ, ◌+◌, ◌<◌, ◌≤◌, IfOk, None, length};
+ghost use Rattle.std.specs.Prelude.{◌≡◌, ℕ, ◌+◌, ◌<◌, ◌≤◌, IfOk, None, [], ◌∷◌, length};
 ghost use Rattle.rv32_image.specs.Image.{IsImage};
 ghost use Rattle.rv32_exec.specs.declared.sequential.End.TheVariants.{Done};
 ghost use Rattle.rv32_exec.specs.Sequential.{first_epochs};
@@ -6,8 +6,9 @@ ghost use Rattle.dependences.specs.Conflict.{IsInOrder, Overflow, first_beside, 
 ghost use Rattle.dependences.specs.Shared.{AreApart};
 ghost use Rattle.dependences.specs.Laws.{NeverOverLines};
 ghost use Rattle.dependences.specs.Kept.{AreAll, CanRun, IsNext};
-ghost use Rattle.dependences.specs.KeptLines.{AreLinesKept, MeetsNone};
+ghost use Rattle.dependences.specs.KeptLines.{MeetsNone};
 ghost use Rattle.dependences.specs.KeptTouches as spec;
+ghost use Rattle.dependences.specs.KeptWatch.{IsWatchKept};
 
 use crate::alone::run_between;
 use crate::beside::first_beside;
@@ -15,8 +16,7 @@ use crate::ends::next_runs;
 use crate::epoch::Epoch;
 use crate::lines::Lines;
 use crate::touches::Touches;
-use memory_bytes::{read_number, write_number};
-use rv32_exec::{NoMemory, Stop, advance, start};
+use rv32_exec::{NoMemory, Notes, start};
 use rv32_image::Image;
 use std::alloc::Global;
 
@@ -44,6 +44,53 @@ struct RanClear {
     epochs: u32,
 }
 
+/// What is kept of the lines of the caches, of as many cores, while epochs run.
+#[derive(Drop)]
+struct Watch {
+    cores: u32,
+    /// The epoch that runs.
+    epoch: Epoch,
+    lines: Lines,
+    touches: Touches,
+    /// The epoch has read a byte from outside in a line in which an epoch beside it has stored. Nothing is noted since.
+    has_met: bool,
+}
+
+impl Notes for Watch {
+    ghost use Rattle.dependences.specs.KeptWatch.{IsWatched};
+
+    ghost right = { IsWatched };
+
+    ghost fixed = { λ watch. watch.cores ∷ watch.epoch ∷ [] };
+
+    fn others_need_no_note() {}
+
+    #[inline(always)]
+    fn load(&mut self, image: &Image, _pc: u32, _done: u64, addr: u32, width: u32) {
+        if self.has_met {
+            return;
+        }
+        let epoch = self.epoch.number();
+        let first = first_beside(self.cores, epoch);
+        if self.lines.meets(image, self.epoch, first, addr, width) {
+            self.has_met = true;
+            return;
+        }
+        self.touches.touch(image, self.cores, epoch, addr);
+    }
+
+    #[inline(always)]
+    fn store(&mut self, image: &Image, _pc: u32, _done: u64, addr: u32, width: u32) {
+        if self.has_met {
+            return;
+        }
+        let epoch = self.epoch.number();
+        self.lines.store(image, self.epoch, addr, width);
+        self.touches.touch(image, self.cores, epoch, addr);
+        self.touches.store(image, self.cores, epoch, addr);
+    }
+}
+
 /// A conflict over caches of two epochs that so many cores can run beside each other, also past the loop's exit or fault; None
 /// where there is none. Then nor do any two paths conflict, on so many cores or on fewer; and where no epoch stores in more lines than
 /// its buffer takes, shared or not, no legal history has a violation that is of a kind.
@@ -67,40 +114,31 @@ pub fn conflict_over_caches(
         return Ok(None);
     }
     let mut memory = Vec::from_slice(alloc, bytes)?;
-    let mut lines = Lines::none(alloc, image)?;
-    let mut touches = Touches::none(alloc, image)?;
-    let ran = conflict_in_order(
-        image,
+    let mut watch = Watch {
         cores,
-        memory.as_mut_slice(),
-        &mut lines,
-        &mut touches,
-    );
+        epoch: Epoch::of(0),
+        lines: Lines::none(alloc, image)?,
+        touches: Touches::none(alloc, image)?,
+        has_met: false,
+    };
+    let ran = conflict_in_order(image, cores, memory.as_mut_slice(), &mut watch);
     if ran.found.is_some() {
         return Ok(ran.found);
     }
-    conflict_past_end(alloc, image, cores, ran.epochs, &mut lines, &mut touches)
+    conflict_past_end(alloc, image, cores, ran.epochs, &mut watch)
 }
 
 /// Runs the epochs in order, up to the first that conflicts with one before it.
-fn conflict_in_order(
-    image: &Image,
-    cores: u32,
-    memory: &mut [u8],
-    lines: &mut Lines,
-    touches: &mut Touches,
-) -> RanClear
+fn conflict_in_order(image: &Image, cores: u32, memory: &mut [u8], watch: &mut Watch) -> RanClear
     requires memory { memory.old ≡ image.now.bytes }
-    requires lines { AreLinesKept image.now cores 0 lines.old }
-    requires touches { spec.AreTouchesKept image.now cores 0 touches.old }
+    requires kept { IsWatchKept image.now cores watch.old 0 }
     ensures found { spec.IsFound image.now cores result.found }
     ensures all { result.found ≡ None → AreAll image.now result.epochs }
     ensures none { result.found ≡ None → spec.AreClear image.now cores result.epochs }
-    ensures lines { result.found ≡ None → AreLinesKept image.now cores result.epochs lines.new }
-    ensures touches { result.found ≡ None → spec.AreTouchesKept image.now cores result.epochs touches.new }
+    ensures kept { result.found ≡ None → IsWatchKept image.now cores watch.new result.epochs }
 {
     for epoch in 0..image.epochs() {
-        let looked = conflict_of(image, cores, epoch, memory, lines, touches);
+        let looked = conflict_of(image, cores, epoch, memory, watch);
         if looked.found.is_some() {
             return RanClear {
                 found: looked.found,
@@ -126,12 +164,10 @@ fn conflict_past_end(
     image: &Image,
     cores: u32,
     ran: u32,
-    lines: &mut Lines,
-    touches: &mut Touches,
+    watch: &mut Watch,
 ) -> Result<Option<CacheConflict>, NoMemory>
     requires all { AreAll image.now ran }
-    requires lines { AreLinesKept image.now cores ran lines.old }
-    requires touches { spec.AreTouchesKept image.now cores ran touches.old }
+    requires kept { IsWatchKept image.now cores watch.old ran }
     requires clear { spec.AreClear image.now cores ran }
     ensures found { IfOk result (λ found. spec.IsFound image.now cores found) }
     ensures none { IfOk result (λ found. found ≡ None → spec.IsNever image.now cores) }
@@ -142,15 +178,7 @@ fn conflict_past_end(
     let mut memory = Vec::from_slice(alloc, image.bytes())?;
     let mut alone = Vec::from_slice(alloc, image.bytes())?;
     let memory = memory.as_mut_slice();
-    Ok(search(
-        image,
-        cores,
-        ran,
-        memory,
-        alone.as_mut_slice(),
-        lines,
-        touches,
-    ))
+    Ok(search(image, cores, ran, memory, alone.as_mut_slice(), watch))
 }
 
 /// Runs each epoch past the end over a copy of memory as the epochs before the first one beside it leave it.
@@ -160,14 +188,12 @@ fn search(
     ran: u32,
     memory: &mut [u8],
     alone: &mut [u8],
-    lines: &mut Lines,
-    touches: &mut Touches,
+    watch: &mut Watch,
 ) -> Option<CacheConflict>
     requires all { AreAll image.now ran }
     requires memory { memory.old ≡ image.now.bytes }
     requires alone { length alone.old ≡ image.now.size }
-    requires lines { AreLinesKept image.now cores ran lines.old }
-    requires touches { spec.AreTouchesKept image.now cores ran touches.old }
+    requires kept { IsWatchKept image.now cores watch.old ran }
     requires clear { spec.AreClear image.now cores ran }
     ensures found { spec.IsFound image.now cores result }
     ensures none { result ≡ None → spec.IsNever image.now cores }
@@ -181,7 +207,7 @@ fn search(
         run_between(image, done, first, memory);
         done = first;
         alone.copy_from_slice(memory);
-        let found = conflict_of(image, cores, later, alone, lines, touches).found;
+        let found = conflict_of(image, cores, later, alone, watch).found;
         if found.is_some() {
             return found;
         }
@@ -196,54 +222,35 @@ fn conflict_of(
     cores: u32,
     epoch: u32,
     memory: &mut [u8],
-    lines: &mut Lines,
-    touches: &mut Touches,
+    watch: &mut Watch,
 ) -> Looked
     requires run { CanRun image.now epoch memory.old }
     requires starts { IsInOrder image.now (first_beside cores epoch) }
     requires memory { memory.old ≡ run_memory image.now cores epoch }
-    requires lines { AreLinesKept image.now cores epoch lines.old }
-    requires touches { spec.AreTouchesKept image.now cores epoch touches.old }
+    requires kept { IsWatchKept image.now cores watch.old epoch }
     ensures found { spec.IsFound image.now cores result.found }
     ensures none { result.found ≡ None → MeetsNone image.now cores epoch }
-    ensures lines { result.found ≡ None → AreLinesKept image.now cores (epoch + 1) lines.new }
-    ensures touches { result.found ≡ None → spec.AreTouchesKept image.now cores (epoch + 1) touches.new }
+    ensures kept { result.found ≡ None → IsWatchKept image.now cores watch.new (epoch + 1) }
     ensures next { result.found ≡ None → first_epochs image.now epoch ≡ record { end = Done epoch; bytes = memory.old } → IsNext image.now (epoch + 1) memory.new result.goes_on }
 {
-    let at = Epoch::of(epoch);
-    let first = first_beside(cores, epoch);
-    let mut arrived = advance(image, start(image, epoch));
-    'accesses: loop {
-        match arrived.at() {
-            Stop::Load { addr, width, .. } => {
-                if lines.meets(image, at, first, addr, width) {
-                    return Looked {
-                        found: Some(CacheConflict::Line { later: epoch }),
-                        goes_on: false,
-                    };
-                }
-                touches.touch(image, cores, epoch, addr);
-                arrived.advance_past_load(image, read_number(memory, addr as usize, width));
-            }
-            Stop::Store { addr, width, value } => {
-                write_number(memory, addr as usize, width, value);
-                lines.store(image, at, addr, width);
-                touches.touch(image, cores, epoch, addr);
-                touches.store(image, cores, epoch, addr);
-                arrived.advance_past_store(image);
-            }
-            Stop::Ended | Stop::Fault { .. } => {
-                if touches.overflows() {
-                    return Looked {
-                        found: Some(CacheConflict::Buffer { later: epoch }),
-                        goes_on: false,
-                    };
-                }
-                return Looked {
-                    found: None,
-                    goes_on: next_runs(image, &arrived),
-                };
-            }
-        }
+    watch.epoch = Epoch::of(epoch);
+    watch.has_met = false;
+    let mut hart = start(image, epoch);
+    let at = hart.run_to_end(image, memory, watch);
+    if watch.has_met {
+        return Looked {
+            found: Some(CacheConflict::Line { later: epoch }),
+            goes_on: false,
+        };
+    }
+    if watch.touches.overflows() {
+        return Looked {
+            found: Some(CacheConflict::Buffer { later: epoch }),
+            goes_on: false,
+        };
+    }
+    Looked {
+        found: None,
+        goes_on: next_runs(image, &hart, at),
     }
 }

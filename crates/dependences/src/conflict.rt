@@ -57,7 +57,7 @@ pub fn least_conflict_over_bytes(image: &Image, nearest: Option<u32>, cores: u32
 }
 
 /// Whether two epochs that depend on each other are nearer than there are cores.
-fn is_near(cores: u32, nearest: Option<u32>) -> bool
+pub fn is_near(cores: u32, nearest: Option<u32>) -> bool
     ensures { result ≡ spec.is_near cores nearest }
 {
     match nearest {

@@ -1,15 +1,15 @@
 ghost use Rattle.std.specs.Prelude.{◌≡◌};
 ghost use Rattle.dependences.specs.Kept as spec;
 
-use rv32_exec::{Arrived, Stop};
+use rv32_exec::{Hart, Stop};
 use rv32_image::Image;
 
-/// Whether the next epoch runs, where one has come to this stop in order.
-pub(crate) fn next_runs(image: &Image, arrived: &Arrived) -> bool
-    ensures { result ≡ spec.next_runs image.now arrived.entry.now.now arrived.entry.now.at }
+/// Whether the next epoch runs, where one has come to this stop in order with this hart.
+pub(crate) fn next_runs(image: &Image, hart: &Hart, at: Stop) -> bool
+    ensures { result ≡ spec.next_runs image.now hart.now at }
 {
-    match arrived.at() {
-        Stop::Ended => !arrived.now().exits(image),
+    match at {
+        Stop::Ended => !hart.exits(image),
         Stop::Load { .. } | Stop::Store { .. } | Stop::Fault { .. } => false,
     }
 }

@@ -5,7 +5,7 @@ ghost use Rattle.dependences.specs.KeptLines as spec;
 
 use crate::epoch::Epoch;
 use crate::last_two::{LastTwo, line_of};
-use crate::nearest::mark;
+use crate::marks::Marks;
 use rv32_exec::NoMemory;
 use rv32_image::Image;
 use std::alloc::Global;
@@ -14,7 +14,7 @@ use std::marker::Model;
 /// Of each byte the last epoch that stored it, and 1, or 0 for none; and the last that stored in each line.
 #[derive(Drop)]
 pub(crate) struct Lines {
-    own: Vec<u32>,
+    own: Marks,
     two: LastTwo,
 }
 
@@ -23,7 +23,7 @@ impl Model for Lines {
 
     ghost Value = { spec.Lines };
 
-    ghost view = { λ s. record { own = s.own.items; two = s.two } };
+    ghost view = { λ s. record { own = s.own; two = s.two } };
 }
 
 impl Lines {
@@ -32,7 +32,7 @@ impl Lines {
         ensures { IfOk result (λ s. (cores : ℕ) → spec.AreLinesKept image.now cores 0 s) }
     {
         let size = image.size() as usize;
-        let own = vec![in alloc; 0; size]?;
+        let own = Marks::none(alloc, size)?;
         let two = LastTwo::none(alloc, image)?;
         Ok(Lines { own, two })
     }
@@ -57,7 +57,7 @@ impl Lines {
             return false;
         }
         for i in 0..width {
-            if self.own[(addr + i) as usize] != epoch.note() {
+            if self.own.at(addr + i) != epoch.note() {
                 return true;
             }
         }
@@ -72,7 +72,7 @@ impl Lines {
         requires lines { spec.AreLines image.now self.old.two }
         ensures { spec.AreStored image.now self.old self.new epoch addr width }
     {
-        mark(self.own.as_mut_slice(), addr, width, epoch.note());
+        self.own.mark(addr, width, epoch.note());
         self.two.note_line(image, epoch, addr, width);
     }
 }

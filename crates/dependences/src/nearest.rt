@@ -142,7 +142,7 @@ fn behind(epoch: Epoch, writer: u32) -> Option<u32>
 }
 
 /// The nearer of the two, if any.
-fn nearer(first: Option<u32>, second: Option<u32>) -> Option<u32>
+pub(crate) fn nearer(first: Option<u32>, second: Option<u32>) -> Option<u32>
     ensures { result ≡ spec.nearer first second }
 {
     match (first, second) {

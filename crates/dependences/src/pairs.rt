@@ -1,10 +1,11 @@
-ghost use Rattle.std.specs.Prelude.{◌≡◌, ℕ, ◌+◌, ◌<◌, ◌^◌, IfOk, OnOk, Some, None, true, false, cond};
+ghost use Rattle.std.specs.Prelude.{◌≡◌, ℕ, ◌+◌, ◌<◌, ◌^◌, IfOk, OnOk, Some, None, [], true, false, cond, length, slice_index_or};
 ghost use Rattle.std.specs.Ordering.{is_eq};
 ghost use Rattle.std.specs.BTreeMap.{get};
 ghost use Rattle.dependences.specs.declared.pairs.PairSum.{PairSum};
 ghost use Rattle.dependences.specs.Pairs as spec;
+ghost use Rattle.dependences.specs.KeptPairs as kept;
 
-use crate::flow::Dependence;
+use crate::flow::{Dependence, Found};
 use rv32_exec::NoMemory;
 use std::alloc::Global;
 use std::collections::BTreeMap;
@@ -42,63 +43,18 @@ impl PairSum {
         }
     }
 
-    /// With one more.
-    fn more(&self, one: &Dependence) -> PairSum
-        requires { self.now.times + 1 < 2 ^ 64 }
-        ensures { result ≡ spec.sum_more self.now one.now }
+    /// Counts one more.
+    #[inline]
+    fn count(&mut self, one: &Dependence)
+        requires { self.old.times + 1 < 2 ^ 64 }
+        ensures { self.new ≡ spec.sum_more self.old one.now }
     {
         let distance = one.later.saturating_sub(one.earlier);
-        PairSum {
-            times: self.times + 1,
-            least: self.least.min(distance),
-            most: self.most.max(distance),
-            lowest: self.lowest.min(one.byte),
-            highest: self.highest.max(one.byte),
-            first: self.first,
-        }
-    }
-}
-
-/// What the dependences of each pair of instructions have in common, by the pcs of the store and of the load.
-///
-/// `NoMemory`: there was none for them.
-pub fn sums_by_pair(
-    alloc: Global,
-    found: &[Dependence],
-) -> Result<BTreeMap<(u32, u32), PairSum>, NoMemory>
-    ensures { IfOk result (λ sums. (store load : ℕ) → get spec.by_pcs sums (store, load) ≡ spec.pair_sum store load found.now) }
-{
-    let mut sums = BTreeMap::new(alloc);
-    for one in found {
-        note(&mut sums, one)?;
-    }
-    Ok(sums)
-}
-
-/// Adds one to the sum of its pair, or puts that of this one alone.
-fn note(sums: &mut BTreeMap<(u32, u32), PairSum>, one: &Dependence) -> Result<(), NoMemory>
-    requires { (s : PairSum) → get spec.by_pcs sums.old (one.now.store_pc, one.now.load_pc) ≡ Some s → s.times + 1 < 2 ^ 64 }
-    ensures { OnOk result (spec.IsNoted sums.old sums.new one.now) }
-{
-    if add(sums, one) {
-        return Ok(());
-    }
-    put(sums, (one.store_pc, one.load_pc), PairSum::of(one))
-}
-
-/// Adds one to the sum of its pair. Answers whether it has one.
-fn add(sums: &mut BTreeMap<(u32, u32), PairSum>, one: &Dependence) -> bool
-    requires { (s : PairSum) → get spec.by_pcs sums.old (one.now.store_pc, one.now.load_pc) ≡ Some s → s.times + 1 < 2 ^ 64 }
-    ensures added { result ≡ true → spec.IsNoted sums.old sums.new one.now }
-    ensures none { result ≡ false → get spec.by_pcs sums.old (one.now.store_pc, one.now.load_pc) ≡ None }
-    ensures same { result ≡ false → (store load : ℕ) → get spec.by_pcs sums.new (store, load) ≡ get spec.by_pcs sums.old (store, load) }
-{
-    match sums.get_mut(&(one.store_pc, one.load_pc)) {
-        Some(sum) => {
-            *sum = sum.more(one);
-            true
-        }
-        None => false,
+        self.times += 1;
+        self.least = self.least.min(distance);
+        self.most = self.most.max(distance);
+        self.lowest = self.lowest.min(one.byte);
+        self.highest = self.highest.max(one.byte);
     }
 }
 
@@ -114,5 +70,165 @@ fn put(
     match sums.insert(pair, sum) {
         Ok(_) => Ok(()),
         Err(_) => Err(NoMemory),
+    }
+}
+
+/// A pair of instructions whose sum is at hand.
+#[derive(Clone, Copy)]
+struct Ready {
+    /// The pc of the store.
+    store: u32,
+    /// The pc of the load.
+    load: u32,
+    sum: PairSum,
+}
+
+/// How many pairs are at hand at most.
+const SLOTS: usize = 256;
+
+/// Where the pair of a load at this pc is at hand, if it is.
+#[inline]
+fn slot_of(load: u32) -> usize
+    ensures slot { result ≡ kept.slot load }
+    ensures few { result < 256 }
+{
+    (load / 4) as usize % SLOTS
+}
+
+/// What dependences have in common by pairs of instructions, kept as the dependences come. The last pair of each of a few loads is at
+/// hand, since a load mostly depends on one store: its sum here is the pair's, and not that of the map.
+#[derive(Drop)]
+pub(crate) struct PairSums {
+    ready: Vec<Option<Ready>>,
+    sums: BTreeMap<(u32, u32), PairSum>,
+    count: u64,
+}
+
+impl Found for PairSums {
+    ghost use Rattle.dependences.specs.KeptPairs.{ArePairSums};
+
+    ghost keeps = { ArePairSums };
+
+    #[inline]
+    fn add(&mut self, one: &Dependence) -> Result<(), NoMemory> {
+        let Some(count) = self.count.checked_add(1) else {
+            return Err(NoMemory);
+        };
+        self.keep(one)?;
+        self.count = count;
+        Ok(())
+    }
+}
+
+impl PairSums {
+    /// None.
+    pub(crate) fn new(alloc: Global) -> Result<PairSums, NoMemory>
+        ensures { IfOk result (λ s. kept.ArePairSums s []) }
+    {
+        let ready = vec![in alloc; None; SLOTS]?;
+        Ok(PairSums {
+            ready,
+            sums: BTreeMap::new(alloc),
+            count: 0,
+        })
+    }
+
+    /// Adds one to the sum of its pair.
+    #[inline]
+    fn keep(&mut self, one: &Dependence) -> Result<(), NoMemory>
+        requires home { kept.AreAtHome self.old.ready.items }
+        requires below { (s : PairSum) → kept.kept_sum self.old.ready.items self.old.sums one.now.store_pc one.now.load_pc ≡ Some s → s.times + 1 < 2 ^ 64 }
+        ensures home { OnOk result (kept.AreAtHome self.new.ready.items) }
+        ensures added { OnOk result (kept.IsAdded self.old self.new one.now) }
+    {
+        if self.count_ready(one) {
+            return Ok(());
+        }
+        self.make_ready(one)
+    }
+
+    /// Adds one to the sum of its pair, where this is at hand. Answers whether it is.
+    #[inline]
+    fn count_ready(&mut self, one: &Dependence) -> bool
+        requires home { kept.AreAtHome self.old.ready.items }
+        requires below { (s : PairSum) → kept.kept_sum self.old.ready.items self.old.sums one.now.store_pc one.now.load_pc ≡ Some s → s.times + 1 < 2 ^ 64 }
+        ensures home { kept.AreAtHome self.new.ready.items }
+        ensures added { result ≡ true → kept.IsAdded self.old self.new one.now }
+        ensures same { result ≡ false → (self.new.ready.items ≡ self.old.ready.items) × (self.new.sums ≡ self.old.sums) }
+        ensures none { result ≡ false → kept.at_hand (slice_index_or self.old.ready.items (kept.slot one.now.load_pc) None) one.now.store_pc one.now.load_pc ≡ None }
+    {
+        match &mut self.ready[slot_of(one.load_pc)] {
+            Some(ready) => {
+                if ready.store != one.store_pc {
+                    return false;
+                }
+                if ready.load != one.load_pc {
+                    return false;
+                }
+                ready.sum.count(one);
+                true
+            }
+            None => false,
+        }
+    }
+
+    /// Takes the pair of a dependence to hand, in place of the one that was there, and adds the dependence to its sum.
+    #[inline(never)]
+    fn make_ready(&mut self, one: &Dependence) -> Result<(), NoMemory>
+        requires home { kept.AreAtHome self.old.ready.items }
+        requires below { (s : PairSum) → kept.kept_sum self.old.ready.items self.old.sums one.now.store_pc one.now.load_pc ≡ Some s → s.times + 1 < 2 ^ 64 }
+        requires none { kept.at_hand (slice_index_or self.old.ready.items (kept.slot one.now.load_pc) None) one.now.store_pc one.now.load_pc ≡ None }
+        ensures home { OnOk result (kept.AreAtHome self.new.ready.items) }
+        ensures added { OnOk result (kept.IsAdded self.old self.new one.now) }
+    {
+        let (store, load) = (one.store_pc, one.load_pc);
+        let slot = slot_of(load);
+        let sum = self.sum_with(one);
+        self.put_back(slot)?;
+        self.ready[slot] = Some(Ready { store, load, sum });
+        Ok(())
+    }
+
+    /// The sum that the map has of the pair of a dependence, with this one.
+    fn sum_with(&self, one: &Dependence) -> PairSum
+        requires { (s : PairSum) → get spec.by_pcs self.now.sums (one.now.store_pc, one.now.load_pc) ≡ Some s → s.times + 1 < 2 ^ 64 }
+        ensures { spec.sum_with (get spec.by_pcs self.now.sums (one.now.store_pc, one.now.load_pc)) one.now ≡ Some result }
+    {
+        match self.sums.get(&(one.store_pc, one.load_pc)) {
+            Some(before) => {
+                let mut sum = *before;
+                sum.count(one);
+                sum
+            }
+            None => PairSum::of(one),
+        }
+    }
+
+    /// Puts the sum of the pair that is at hand in this place into the map.
+    fn put_back(&mut self, slot: usize) -> Result<(), NoMemory>
+        requires { slot < length self.old.ready.items }
+        ensures ready { self.new.ready.items ≡ self.old.ready.items }
+        ensures count { self.new.count ≡ self.old.count }
+        ensures sums { OnOk result ((store load : ℕ) → get spec.by_pcs self.new.sums (store, load)
+            ≡ kept.sum_or (kept.at_hand (slice_index_or self.old.ready.items slot None) store load) (get spec.by_pcs self.old.sums (store, load))) }
+    {
+        match self.ready[slot] {
+            Some(ready) => put(&mut self.sums, (ready.store, ready.load), ready.sum),
+            None => Ok(()),
+        }
+    }
+
+    /// All sums, by the pcs of the store and of the load.
+    ///
+    /// `NoMemory`: there was none for those that were at hand.
+    pub(crate) fn all(self) -> Result<BTreeMap<(u32, u32), PairSum>, NoMemory>
+        requires { kept.AreAtHome self.ready.items }
+        ensures { IfOk result (λ sums. (store load : ℕ) → get spec.by_pcs sums (store, load) ≡ kept.kept_sum self.ready.items self.sums store load) }
+    {
+        let mut all = self;
+        for slot in 0..SLOTS {
+            all.put_back(slot)?;
+        }
+        Ok(all.sums)
     }
 }

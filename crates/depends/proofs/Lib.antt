@@ -1,5 +1,5 @@
 pub mod Answering
 mod Joining
-pub mod Known
+pub mod OnMachines
 -- A history that has a violation has an explanation.
 pub mod Violations

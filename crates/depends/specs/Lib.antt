@@ -12,5 +12,3 @@ pub mod Answers
 pub mod Work
 -- What the code keeps: whose turns schedules have.
 pub mod Ahead
--- What the run in order shows.
-pub mod Known

@@ -9,14 +9,14 @@ use Rattle.dependences.specs.declared.flow.Dependence.{Dependence}
 use Rattle.dependences.specs.declared.pairs.PairSum.{PairSum}
 use Rattle.dependences.specs.Flow.{AreDependences}
 use Rattle.dependences.specs.Lengths.{AreLengths}
+use Rattle.shown_conflicts.specs.declared.shown.InOrder.{InOrder}
+use Rattle.shown_conflicts.specs.Ran.{IsRun}
 use Rattle.trace_commands.specs.declared.store.Store.{Store}
 use Rattle.trace_commands.specs.declared.store.Store.TheVariants.{Caches, Plain}
 use Rattle.trace_commands.specs.Stores.{store_named}
 use Rattle.depends.specs.declared.least.Grain.TheVariants.{Lines}
 use Rattle.depends.specs.declared.line.Line.{Line}
 use Rattle.depends.specs.Line.{IsLine, line_text}
-use Rattle.depends.specs.declared.line.Known.{Known}
-use Rattle.depends.specs.Known.{IsKnown}
 use Rattle.depends.specs.Plain.{IsPlainLine}
 use Rattle.depends.specs.Rows.{AreRowsOf}
 use Rattle.all_schedules.specs.Stores.{on_store}
@@ -34,9 +34,9 @@ IsLineOf image (Caches asked) cores room line = IsLine cache.Starts cache.Makes 
 IsLineOf image Plain cores room line = IsPlainLine image cores room line
 
 -- what the run in order shows is so of the loop on the machine of this store, where that is taken
-abbrev pub IsKnownOn : LoadedImage → Store → Known → Type 0
-IsKnownOn image (Caches asked) known = Unit {0}
-IsKnownOn image Plain known = IsKnown image known
+abbrev pub IsRunOn : LoadedImage → Store → InOrder → Type 0
+IsRunOn image (Caches asked) ran = Unit {0}
+IsRunOn image Plain ran = IsRun image ran
 
 -- it is told of the store that this word names
 abbrev pub AddStore : LoadedImage → ℕ → ℕ → List ℕ → Option Store → List ℕ → List ℕ → Type 0

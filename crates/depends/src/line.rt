@@ -9,7 +9,6 @@ use crate::least::{Grain, least_by_halves};
 use crate::shown::{Met, Shown, show};
 use crate::text::{push_address, push_named, push_word};
 use all_schedules::{LoopOn, push_turns};
-use dependences::Dependence;
 use spec_bus::CachedBus;
 use std::alloc::{AllocError, Global};
 
@@ -28,17 +27,6 @@ pub enum Line {
     Open {
         cores: u32,
     },
-}
-
-/// What the run in order has shown.
-#[derive(Clone, Copy)]
-pub struct Known<'a> {
-    /// Its dependences.
-    pub found: &'a [Dependence],
-    /// How many epochs it has.
-    pub epochs: u32,
-    /// The least distance at which they depend on each other over bytes, if any do.
-    pub nearest: Option<u32>,
 }
 
 /// What is told of the caches on a bus, and up to so many cores.

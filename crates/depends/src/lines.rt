@@ -1,18 +1,22 @@
 //! All lines.
-ghost use Rattle.std.specs.Prelude.{◌≡◌, IfOk, OnOk, map};
+ghost use Rattle.std.specs.Prelude.{◌≡◌, IfOk, OnOk, List, map};
 ghost use Rattle.trace_commands.specs.Stores.{store_named};
 ghost use Rattle.all_schedules.specs.Stores.{RunsOn, RunsOnAll};
-ghost use Rattle.depends.specs.Known.{IsKnown};
+ghost use Rattle.shown_conflicts.specs.Ran.{IsRun};
+ghost use Rattle.dependences.specs.declared.flow.Dependence.{Dependence};
+ghost use Rattle.dependences.specs.Summed.{AreSumsOf};
 ghost use Rattle.depends.specs.Lines as spec;
 
-use crate::line::{Known, Line, line_over_caches, push_line};
+use crate::line::{Line, line_over_caches, push_line};
 use crate::plain::line_over_plain;
 use crate::rows::rows_of;
 use crate::text::push_rows;
 use all_schedules::{CoreCount, LoopOn, Room, store_on};
-use dependences::{Dependence, shown_in_order};
+use dependences::{PairSum, shown_in_order};
 use rv32_exec::Image;
+use shown_conflicts::InOrder;
 use std::alloc::{AllocError, Global};
+use std::collections::BTreeMap;
 use std::convert::AsStr;
 use trace_commands::Store;
 
@@ -32,21 +36,25 @@ pub fn print_lines<S: AsStr>(
     let Ok(ran) = shown_in_order(alloc, image) else {
         return Err(AllocError);
     };
-    let known = Known {
-        found: ran.found.as_slice(),
-        epochs: ran.lengths.len().min(image.epochs() as usize) as u32,
+    let in_order = InOrder {
         nearest: ran.nearest,
+        later: ran.later,
+        epochs: ran.lengths.len().min(image.epochs() as usize) as u32,
     };
-    let mut text = print_rows(alloc, ran.found.as_slice(), ran.lengths.as_slice())?;
-    push_stores(alloc, &mut text, image, cores, stores, room, known)?;
+    let mut text = print_rows(alloc, &ran.sums, ran.lengths.as_slice())?;
+    push_stores(alloc, &mut text, image, cores, stores, room, in_order)?;
     Ok(text)
 }
 
-/// A line for each pair of instructions that some of these dependences join.
-fn print_rows(alloc: Global, found: &[Dependence], lengths: &[u64]) -> Result<Vec<u8>, AllocError>
-    ensures { IfOk result (λ text. spec.AreRowLines found.now lengths.now text.items) }
+/// A line for each pair of instructions that some dependences join, from their sums.
+fn print_rows(
+    alloc: Global,
+    sums: &BTreeMap<(u32, u32), PairSum>,
+    lengths: &[u64],
+) -> Result<Vec<u8>, AllocError>
+    ensures { IfOk result (λ text. (found : List Dependence) → AreSumsOf found sums.now → spec.AreRowLines found lengths.now text.items) }
 {
-    let rows = rows_of(alloc, found)?;
+    let rows = rows_of(alloc, sums)?;
     let mut text = Vec::new(alloc);
     push_rows(&mut text, lengths, rows.as_slice())?;
     Ok(text)
@@ -60,14 +68,14 @@ fn push_stores<S: AsStr>(
     cores: CoreCount,
     words: &[S],
     room: Room,
-    known: Known<'_>,
+    ran: InOrder,
 ) -> Result<(), AllocError>
     requires stores { RunsOnAll image.now cores (map S.text words.now) }
-    requires known { IsKnown image.now known }
+    requires ran { IsRun image.now ran }
     ensures { OnOk result (spec.AddStores image.now cores room (map S.text words.now) text.old.items text.new.items) }
 {
     for word in words {
-        push_store(alloc, text, image, cores, word.as_str(), room, known)?;
+        push_store(alloc, text, image, cores, word.as_str(), room, ran)?;
     }
     Ok(())
 }
@@ -80,10 +88,10 @@ fn push_store(
     cores: CoreCount,
     word: &str,
     room: Room,
-    known: Known<'_>,
+    ran: InOrder,
 ) -> Result<(), AllocError>
     requires store { RunsOn image.now cores (store_named word.now) }
-    requires known { IsKnown image.now known }
+    requires ran { IsRun image.now ran }
     ensures { OnOk result (spec.AddStore image.now cores room word.now (store_named word.now) text.old.items text.new.items) }
 {
     let (store, image) = store_on(alloc, image, cores, word)?;
@@ -92,22 +100,17 @@ fn push_store(
         cores: cores.count(),
         room,
     };
-    let line = line_of(alloc, &on, store, known)?;
+    let line = line_of(alloc, &on, store, ran)?;
     push_line(text, word, on.cores, &line)
 }
 
 /// What is told of a store, of the loop on its machine.
-fn line_of(
-    alloc: Global,
-    on: &LoopOn<'_>,
-    store: Store,
-    known: Known<'_>,
-) -> Result<Line, AllocError>
-    requires known { spec.IsKnownOn on.now.image.now store known }
+fn line_of(alloc: Global, on: &LoopOn<'_>, store: Store, ran: InOrder) -> Result<Line, AllocError>
+    requires ran { spec.IsRunOn on.now.image.now store ran }
     ensures { IfOk result (spec.IsLineOf on.now.image.now store on.now.cores on.now.room) }
 {
     match store {
         Store::Caches(_) => line_over_caches(alloc, on),
-        Store::Plain => line_over_plain(alloc, on, known),
+        Store::Plain => line_over_plain(alloc, on, ran),
     }
 }

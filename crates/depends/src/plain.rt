@@ -4,49 +4,47 @@ ghost use Rattle.homefree.specs.LockView.{loop_of};
 ghost use Rattle.all_schedules.specs.Made.{the_loop};
 ghost use Rattle.dependences.specs.Conflict.{ConflictInOrder};
 ghost use Rattle.shown_conflicts.specs.Violation.{HasViolation};
-ghost use Rattle.depends.specs.Known.{IsKnown};
+ghost use Rattle.shown_conflicts.specs.Ran.{IsRun};
 ghost use Rattle.depends.specs.Plain as spec;
 
 use crate::least::least_over_bytes;
-use crate::line::{Known, Line};
+use crate::line::Line;
 use crate::shown::first_of;
 use all_schedules::{LoopOn, trace_is_made_again, turns_of};
 use homefree::Book;
-use shown_conflicts::{Ahead, show_conflict};
+use shown_conflicts::{Ahead, InOrder, show_conflict};
 use std::alloc::{AllocError, Global};
 use violations::PlainStore;
 
 /// What is told of the plain store, and up to so many cores.
 ///
 /// `AllocError`: memory ran out.
-pub fn line_over_plain(alloc: Global, on: &LoopOn<'_>, known: Known<'_>) -> Result<Line, AllocError>
-    requires { IsKnown on.now.image.now known }
+pub fn line_over_plain(alloc: Global, on: &LoopOn<'_>, ran: InOrder) -> Result<Line, AllocError>
+    requires { IsRun on.now.image.now ran }
     ensures { IfOk result (spec.IsPlainLine on.now.image.now on.now.cores on.now.room) }
 {
     let cores = on.cores;
-    let epochs = known.epochs;
-    match least_over_bytes(alloc, on.image, cores, epochs, known.nearest)? {
+    match least_over_bytes(alloc, on.image, cores, ran.epochs, ran.nearest)? {
         Some(least) => {
             let on = LoopOn {
                 image: on.image,
                 cores: least.cores,
                 room: on.room,
             };
-            line_from_plain(alloc, &on, known)
+            line_from_plain(alloc, &on, ran)
         }
         None => Ok(Line::Never),
     }
 }
 
 /// The line from so many cores on, on which epochs conflict.
-fn line_from_plain(alloc: Global, on: &LoopOn<'_>, known: Known<'_>) -> Result<Line, AllocError>
-    requires known { IsKnown on.now.image.now known }
+fn line_from_plain(alloc: Global, on: &LoopOn<'_>, ran: InOrder) -> Result<Line, AllocError>
+    requires ran { IsRun on.now.image.now ran }
     requires conflict { ConflictInOrder on.now.image.now on.now.cores }
     ensures { IfOk result (spec.IsPlainFrom on.now.image.now on.now.cores on.now.room) }
 {
     let (cores, room) = (on.cores, on.room.entries());
-    let epochs = known.epochs;
-    match show_conflict(alloc, on.image, cores, room, known.found, epochs) {
+    match show_conflict(alloc, on.image, cores, room, ran) {
         Ok(Ahead::Violated(book)) => line_of_violation(alloc, on, &book),
         Ok(Ahead::HistoryFull(book)) => {
             trace_is_made_again(&book);

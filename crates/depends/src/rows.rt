@@ -1,11 +1,13 @@
 //! The pairs of instructions that dependences of the run in order join, the heaviest first.
-ghost use Rattle.std.specs.Prelude.{◌≡◌, IfOk};
+ghost use Rattle.std.specs.Prelude.{◌≡◌, IfOk, List};
 ghost use Rattle.std.specs.BTreeMap.{IsOrdered};
 ghost use Rattle.std.specs.List.Sorted.{IsPermutation, IsSorted};
+ghost use Rattle.dependences.specs.declared.flow.Dependence.{Dependence};
 ghost use Rattle.dependences.specs.Pairs.{by_pcs};
+ghost use Rattle.dependences.specs.Summed.{AreSumsOf};
 ghost use Rattle.depends.specs.Rows as spec;
 
-use dependences::{Dependence, PairSum, sums_by_pair};
+use dependences::PairSum;
 use std::alloc::{AllocError, Global};
 use std::cmp::Reverse;
 use std::collections::BTreeMap;
@@ -13,17 +15,14 @@ use std::collections::BTreeMap;
 /// The pcs of a store and of a load, and what the dependences have in common that join them.
 pub type Row = ((u32, u32), PairSum);
 
-/// What these dependences have in common, by pairs of instructions: those of most dependences first, and of as many by the pcs of the
-/// store and of the load.
+/// What dependences have in common, by pairs of instructions, from their sums: those of most dependences first, and of as many by the pcs
+/// of the store and of the load.
 ///
 /// `AllocError`: memory ran out.
-pub fn rows_of(alloc: Global, found: &[Dependence]) -> Result<Vec<Row>, AllocError>
-    ensures { IfOk result (λ rows. spec.AreRowsOf found.now rows.items) }
+pub fn rows_of(alloc: Global, sums: &BTreeMap<(u32, u32), PairSum>) -> Result<Vec<Row>, AllocError>
+    ensures { IfOk result (λ rows. (found : List Dependence) → AreSumsOf found sums.now → spec.AreRowsOf found rows.items) }
 {
-    let Ok(sums) = sums_by_pair(alloc, found) else {
-        return Err(AllocError);
-    };
-    let mut rows = entries_of(alloc, &sums)?;
+    let mut rows = entries_of(alloc, sums)?;
     order(&mut rows);
     Ok(rows)
 }

@@ -14,7 +14,8 @@ use Rattle.dependences.specs.Conflict.{IsInOrder, memory_before}
 use Rattle.dependences.specs.Flow.{DependsAt, LastStore}
 use Rattle.dependences.specs.Paths.{StoresAt}
 use Rattle.dependences.proofs.InOrder.{all_in_order}
-use Rattle.dependences.proofs.Paths.{IsAt, before_event, loads_there}
+use Rattle.dependences.specs.KeptRun.{IsAt}
+use Rattle.dependences.proofs.Paths.{before_event, loads_there}
 use Rattle.even_speed.specs.Held.{Holding, is_held, is_stored, reads_stored, waits_by}
 use Rattle.limits.specs.HeldBound.{HoldsInOrder}
 use Rattle.limits.proofs.Stopping.{before_end, lasts_some}

@@ -7,7 +7,7 @@ use Rattle.dependences.specs.Paths.{ReadsOutside, StoresAt}
 use Rattle.dependences.specs.Conflict.{memory_before}
 use Rattle.dependences.specs.Flow.{DependsAt}
 use Rattle.dependences.specs.Lengths.{Lasts}
-use Rattle.dependences.proofs.Paths.{IsAt}
+use Rattle.dependences.specs.KeptRun.{IsAt}
 use Rattle.limits.specs.declared.limit.Waits.{Waits}
 use Rattle.limits.specs.declared.limit.Waits.TheVariants.{Store}
 use Rattle.limits.specs.Limits.{Timing, awaited}

@@ -18,7 +18,8 @@ use Rattle.spec_history.proofs.OneEntry.Going.{Going, homefree_run}
 use Rattle.spec_history.proofs.OneEntry.Keeping.{noted}
 use Rattle.dependences.specs.Conflict.{memory_before}
 use Rattle.dependences.specs.Paths.{StoresAt}
-use Rattle.dependences.proofs.Paths.{IsAt, access_stops, past_load, past_store, same_store}
+use Rattle.dependences.specs.KeptRun.{IsAt}
+use Rattle.dependences.proofs.Paths.{access_stops, past_load, past_store, same_store}
 use Rattle.dependences.proofs.Following.{hart_before, hart_there, load_late, no_both, store_late}
 use Rattle.dependences.proofs.Outside.{read_by_load, read_by_store}
 use Rattle.memory_bytes.proofs.Bytes.{stored_within}

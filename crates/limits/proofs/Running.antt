@@ -20,7 +20,8 @@ use Rattle.dependences.specs.Paths.{ReadsOutside, StoresAt}
 use Rattle.dependences.specs.Conflict.{IsInOrder, memory_before}
 use Rattle.dependences.specs.Flow.{DependsAt, LastStore}
 use Rattle.dependences.specs.Kept.{AreAll}
-use Rattle.dependences.proofs.Paths.{IsAt, access_stops, at_start, before_event, covered, either, load_after, loads_there, neither, past_load, past_store, same_store, start_after, store_after, stores_there, to_event}
+use Rattle.dependences.specs.KeptRun.{IsAt}
+use Rattle.dependences.proofs.Paths.{access_stops, at_start, before_event, covered, either, load_after, loads_there, neither, past_load, past_store, same_store, start_after, store_after, stores_there, to_event}
 use Rattle.dependences.proofs.Following.{all_loaded, all_stored_early, hart_before, hart_there, load_late, no_both, store_late, unmarked}
 use Rattle.dependences.proofs.Outside.{OnPath, lasts, read_by_load, read_by_store, seen_now}
 use Rattle.limits.specs.declared.limit.Waits.{Waits}

@@ -1,7 +1,7 @@
 //! The loads of a loop that depend on earlier epochs.
 
 use crate::words::{cell, hex, image_in, is_row, number};
-use dependences::{Dependence, PairSum, dependences_in_order, lengths_in_order, sums_by_pair};
+use dependences::{Dependence, PairSum, dependences_in_order, lengths_in_order, shown_in_order};
 use rv32_exec::{Image, NoMemory, image_of};
 use std::alloc::Global;
 use std::collections::BTreeMap;
@@ -55,10 +55,10 @@ fn dependences(alloc: Global, image: &Image) -> Result<Vec<Dependence>, NoMemory
 }
 
 /// The sums of their pairs. Where memory is refused it says so, and the next call is as if nothing had been.
-fn sums(alloc: Global, found: &[Dependence]) -> Result<BTreeMap<(u32, u32), PairSum>, NoMemory> {
-    match sums_by_pair(alloc, found) {
-        Ok(sums) => Ok(sums),
-        Err(NoMemory) => sums_by_pair(alloc, found),
+fn sums(alloc: Global, image: &Image) -> Result<BTreeMap<(u32, u32), PairSum>, NoMemory> {
+    match shown_in_order(alloc, image) {
+        Ok(shown) => Ok(shown.sums),
+        Err(NoMemory) => Ok(shown_in_order(alloc, image)?.sums),
     }
 }
 
@@ -82,7 +82,7 @@ fn has_pair(sums: &BTreeMap<(u32, u32), PairSum>, row: &str) -> bool {
 fn is_joined(alloc: Global, row: &str) -> Result<bool, Fail> {
     let image = image_named(alloc, cell(row, 0))?;
     let found = dependences(alloc, &image)?;
-    let sums = sums(alloc, found.as_slice())?;
+    let sums = sums(alloc, &image)?;
     Ok(
         found.len() == number(row, 1) as usize
             && sums.len() == number(row, 2) as usize
@@ -123,7 +123,7 @@ fn tells_of_the_store_and_the_load(rt: HostRuntime) -> Result<(), Fail> {
         assert!(rt; *one == wanted && later.saturating_sub(1) == one.earlier);
         later = later.saturating_add(1);
     }
-    let sums = sums(rt.alloc(), found.as_slice())?;
+    let sums = sums(rt.alloc(), &image)?;
     let wanted = PairSum {
         times: 15,
         least: 1,

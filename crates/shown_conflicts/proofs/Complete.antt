@@ -29,7 +29,8 @@ use Rattle.spec_history.proofs.Replay.Replays.{effect-idle, effect-on, on_core, 
 use Rattle.dependences.specs.Paths.{ReadsOutside}
 use Rattle.dependences.proofs.Histories.{along}
 use Rattle.dependences.proofs.Outside.{read_by_load, read_by_store}
-use Rattle.dependences.proofs.Paths.{IsAt, at_start, past_load, past_store}
+use Rattle.dependences.specs.KeptRun.{IsAt}
+use Rattle.dependences.proofs.Paths.{at_start, past_load, past_store}
 
 -- the core over this memory
 pub record IsComplete (image : LoadedImage) (memory : List ℕ) (c : CoreState) : Type 0 where

@@ -40,7 +40,7 @@ use Rattle.dependences.specs.Paths.{ReadsOutside, Stores}
 use Rattle.dependences.proofs.Following.{all_loaded, all_stored}
 use Rattle.dependences.proofs.InOrder.{all_in_order}
 use Rattle.dependences.proofs.Outside.{OnPath, done_before, no_exit, no_fault}
-use Rattle.dependences.proofs.Paths.{IsAt}
+use Rattle.dependences.specs.KeptRun.{IsAt}
 use Rattle.dependences.proofs.Starting.{IsFresh, fresh}
 use Rattle.shown_conflicts.specs.Quiet.{AreOthers, ComesTo, GoesOn, HasCommitted, HasReadAll, IsAtEnd, IsQuiet, PassesOver, RunsEpoch, Starts}
 use Rattle.shown_conflicts.proofs.Complete.{IsComplete, all_know}

@@ -5,4 +5,4 @@ pub mod Shown
 pub mod Quiet
 pub mod Drives
 pub mod Windows
-pub mod Near
+pub mod Ran

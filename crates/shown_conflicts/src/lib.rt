@@ -6,4 +6,4 @@ mod drive;
 mod shown;
 
 pub use ahead::{Ahead, run_ahead};
-pub use shown::show_conflict;
+pub use shown::{InOrder, show_conflict};

@@ -4,8 +4,8 @@ use Rattle.rv32_exec.specs.Sequential.{SequentialResult}
 use Rattle.rv32_exec.proofs.Epochs.{first_epochs-none}
 use Rattle.dependences.specs.Conflict.{IsInOrder, first_beside}
 use Rattle.dependences.specs.Kept.{IsNext}
-use Rattle.dependences.specs.KeptLines.{AreLinesKept}
-use Rattle.dependences.specs.KeptTouches.{AreClear, AreTouchesKept}
+use Rattle.dependences.specs.KeptTouches.{AreClear}
+use Rattle.dependences.specs.KeptWatch.{IsWatchKept}
 use Rattle.dependences.proofs.Caching.{clear_first, clear_more, none_of}
 use Rattle.dependences.proofs.Ending.{all_by_end, all_by_last}
 use Rattle.dependences.proofs.InOrder.{all_in_order, low_most}
@@ -15,8 +15,7 @@ pub loop-epoch-init : goal.loop-epoch-init
 loop-epoch-init c = record {
   before = first_epochs-none c.args.image.now ∙ ap (λ (m : List ℕ). let r : SequentialResult = record { end = Done 0; bytes = m } in r) (sym c.requires.memory);
   size = ap length c.requires.memory ∙ c.epochs-epoch-end.ensures.limits.byte_count;
-  lines = c.requires.lines;
-  touches = c.requires.touches;
+  kept = c.requires.kept;
   clear = clear_first c.args.image.now c.args.cores;
 }
 
@@ -36,8 +35,7 @@ loop-epoch-preserved c =
       before = subst (IsNext image (epoch + 1) c.conflict_of-looked.new.memory) c.if-not-looked.false
           (c.conflict_of-looked.ensures.next none c.loop-epoch.invariant.before);
       size = c.conflict_of-looked.auto.memory ∙ c.loop-epoch.invariant.size;
-      lines = c.conflict_of-looked.ensures.lines none;
-      touches = c.conflict_of-looked.ensures.touches none;
+      kept = c.conflict_of-looked.ensures.kept none;
       clear = clear_more image c.args.cores epoch (c.conflict_of-looked.ensures.none none) c.loop-epoch.invariant.clear;
     }
 
@@ -56,11 +54,8 @@ returns-then-not-looked-clause-none c is =
     clear_more c.args.image.now c.args.cores c.loop-epoch.epoch
     (c.conflict_of-looked.ensures.none (none_of c.conflict_of-looked.result.found (sym c.is_some.ensures ∙ c.if-is_some.false))) c.loop-epoch.invariant.clear
 
-pub returns-then-not-looked-clause-lines : goal.returns-then-not-looked-clause-lines
-returns-then-not-looked-clause-lines c is = c.conflict_of-looked.ensures.lines (none_of c.conflict_of-looked.result.found (sym c.is_some.ensures ∙ c.if-is_some.false))
-
-pub returns-then-not-looked-clause-touches : goal.returns-then-not-looked-clause-touches
-returns-then-not-looked-clause-touches c is = c.conflict_of-looked.ensures.touches (none_of c.conflict_of-looked.result.found (sym c.is_some.ensures ∙ c.if-is_some.false))
+pub returns-then-not-looked-clause-kept : goal.returns-then-not-looked-clause-kept
+returns-then-not-looked-clause-kept c is = c.conflict_of-looked.ensures.kept (none_of c.conflict_of-looked.result.found (sym c.is_some.ensures ∙ c.if-is_some.false))
 
 pub returns-clause-all : goal.returns-clause-all
 returns-clause-all c is =
@@ -75,14 +70,8 @@ returns-clause-none c is =
     let last : c.loop-epoch.epoch ≡ image.epochs = omega (arith, c.epochs-epoch-end.ensures.epochs) in
     rw c.epochs.ensures.epochs (subst (λ n. AreClear image c.args.cores n) last c.loop-epoch.invariant.clear)
 
-pub returns-clause-lines : goal.returns-clause-lines
-returns-clause-lines c is =
+pub returns-clause-kept : goal.returns-clause-kept
+returns-clause-kept c is =
     let image = c.args.image.now in
     let last : c.loop-epoch.epoch ≡ image.epochs = omega (arith, c.epochs-epoch-end.ensures.epochs) in
-    rw c.epochs.ensures.epochs (subst (λ n. AreLinesKept image c.args.cores n c.loop-epoch.lines) last c.loop-epoch.invariant.lines)
-
-pub returns-clause-touches : goal.returns-clause-touches
-returns-clause-touches c is =
-    let image = c.args.image.now in
-    let last : c.loop-epoch.epoch ≡ image.epochs = omega (arith, c.epochs-epoch-end.ensures.epochs) in
-    rw c.epochs.ensures.epochs (subst (λ n. AreTouchesKept image c.args.cores n c.loop-epoch.touches) last c.loop-epoch.invariant.touches)
+    rw c.epochs.ensures.epochs (subst (λ n. IsWatchKept image c.args.cores c.loop-epoch.watch n) last c.loop-epoch.invariant.kept)

@@ -1,8 +1,8 @@
 use Rattle.std.proofs.Common.{◌≡◌, length}
 use Rattle.rv32_exec.specs.declared.sequential.End.TheVariants.{Done}
 use Rattle.rv32_exec.specs.Sequential.{first_epochs}
-use Rattle.dependences.specs.KeptLines.{AreLinesKept}
-use Rattle.dependences.specs.KeptTouches.{AreClear, AreTouchesKept}
+use Rattle.dependences.specs.KeptTouches.{AreClear}
+use Rattle.dependences.specs.KeptWatch.{IsWatchKept}
 use Rattle.dependences.proofs.caches.conflict_in_order.Given as goal
 
 -- the epochs so far are done, and none of them conflicts with one before it
@@ -10,7 +10,6 @@ abbrev pub invariant-loop-epoch : goal.invariant-loop-epoch
 invariant-loop-epoch l = record {
   before : first_epochs l.image l.epoch ≡ record { end = Done l.epoch; bytes = l.memory };
   size : length l.memory ≡ l.image.size;
-  lines : AreLinesKept l.image l.cores l.epoch l.lines;
-  touches : AreTouchesKept l.image l.cores l.epoch l.touches;
+  kept : IsWatchKept l.image l.cores l.watch l.epoch;
   clear : AreClear l.image l.cores l.epoch;
 }

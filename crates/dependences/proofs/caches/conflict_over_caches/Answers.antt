@@ -12,11 +12,8 @@ use Rattle.dependences.proofs.caches.conflict_over_caches.Goals as goal
 pub conflict_past_end-requires-clause-all : goal.conflict_past_end-requires-clause-all
 conflict_past_end-requires-clause-all c = c.conflict_in_order-ran.ensures.all (none_of c.conflict_in_order-ran.result.found (sym c.is_some.ensures ∙ c.if-is_some.false))
 
-pub conflict_past_end-requires-clause-lines : goal.conflict_past_end-requires-clause-lines
-conflict_past_end-requires-clause-lines c = c.conflict_in_order-ran.ensures.lines (none_of c.conflict_in_order-ran.result.found (sym c.is_some.ensures ∙ c.if-is_some.false))
-
-pub conflict_past_end-requires-clause-touches : goal.conflict_past_end-requires-clause-touches
-conflict_past_end-requires-clause-touches c = c.conflict_in_order-ran.ensures.touches (none_of c.conflict_in_order-ran.result.found (sym c.is_some.ensures ∙ c.if-is_some.false))
+pub conflict_past_end-requires-clause-kept : goal.conflict_past_end-requires-clause-kept
+conflict_past_end-requires-clause-kept c = c.conflict_in_order-ran.ensures.kept (none_of c.conflict_in_order-ran.result.found (sym c.is_some.ensures ∙ c.if-is_some.false))
 
 pub conflict_past_end-requires-clause-clear : goal.conflict_past_end-requires-clause-clear
 conflict_past_end-requires-clause-clear c = c.conflict_in_order-ran.ensures.none (none_of c.conflict_in_order-ran.result.found (sym c.is_some.ensures ∙ c.if-is_some.false))

@@ -13,16 +13,15 @@ loop-later-init c = record {
   low = omega arith;
   size = ap length c.requires.memory ∙ c.epochs-later-end.ensures.limits.byte_count;
   alone = c.requires.alone;
-  lines = c.requires.lines;
-  touches = c.requires.touches;
+  kept = c.requires.kept;
   clear = c.requires.clear;
 }
 
 pub returns-then-first-ran-clause-none : goal.returns-then-first-ran-clause-none
 returns-then-first-ran-clause-none c found =
     let first = c.first_beside-first.ensures in
-    never_further c.args.image.now c.args.cores c.args.ran c.loop-later.later c.loop-later.touches c.requires.all (rw (← first) c.if-first-ran.true) c.loop-later.invariant.clear
-    c.loop-later.invariant.touches
+    never_further c.args.image.now c.args.cores c.args.ran c.loop-later.later c.loop-later.watch.touches c.requires.all (rw (← first) c.if-first-ran.true) c.loop-later.invariant.clear
+    c.loop-later.invariant.kept.touches
 
 pub conflict_of-found-requires-clause-memory : goal.conflict_of-found-requires-clause-memory
 conflict_of-found-requires-clause-memory c =
@@ -40,13 +39,12 @@ loop-later-preserved c =
       low = omega (arith, first);
       size = c.run_between.ensures.size;
       alone = c.conflict_of-found.auto.memory ∙ (c.copy_from_slice.ensures.len ∙ c.loop-later.invariant.alone);
-      lines = c.conflict_of-found.ensures.lines none;
-      touches = c.conflict_of-found.ensures.touches none;
+      kept = c.conflict_of-found.ensures.kept none;
       clear = clear_more c.args.image.now c.args.cores c.loop-later.later (c.conflict_of-found.ensures.none none) c.loop-later.invariant.clear;
     }
 
 pub returns-clause-none : goal.returns-clause-none
 returns-clause-none c none =
     let last : c.loop-later.later ≡ c.args.image.now.epochs = omega (arith, c.requires.all.most, c.loop-later.auto.later, c.epochs-later-end.ensures.epochs, c.loop-later-test.false) in
-    never_at_all c.args.image.now c.args.cores c.loop-later.touches (subst (λ n. AreClear c.args.image.now c.args.cores n) last c.loop-later.invariant.clear)
-    (subst (λ n. AreTouchesKept c.args.image.now c.args.cores n c.loop-later.touches) last c.loop-later.invariant.touches)
+    never_at_all c.args.image.now c.args.cores c.loop-later.watch.touches (subst (λ n. AreClear c.args.image.now c.args.cores n) last c.loop-later.invariant.clear)
+    (subst (λ n. AreTouchesKept c.args.image.now c.args.cores n c.loop-later.watch.touches) last c.loop-later.invariant.kept.touches)

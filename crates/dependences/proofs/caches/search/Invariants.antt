@@ -2,8 +2,8 @@ use Rattle.std.proofs.Common.{◌≡◌, ◌≤◌, length}
 use Rattle.rv32_exec.specs.declared.sequential.End.TheVariants.{Done}
 use Rattle.rv32_exec.specs.Sequential.{first_epochs}
 use Rattle.dependences.specs.Conflict.{first_beside}
-use Rattle.dependences.specs.KeptLines.{AreLinesKept}
-use Rattle.dependences.specs.KeptTouches.{AreClear, AreTouchesKept}
+use Rattle.dependences.specs.KeptTouches.{AreClear}
+use Rattle.dependences.specs.KeptWatch.{IsWatchKept}
 use Rattle.dependences.proofs.caches.search.Given as goal
 
 -- no epoch before this one conflicts
@@ -13,7 +13,6 @@ invariant-loop-later l = record {
   low : l.done ≤ first_beside l.cores l.later;
   size : length l.memory ≡ l.image.size;
   alone : length l.alone ≡ l.image.size;
-  lines : AreLinesKept l.image l.cores l.later l.lines;
-  touches : AreTouchesKept l.image l.cores l.later l.touches;
+  kept : IsWatchKept l.image l.cores l.watch l.later;
   clear : AreClear l.image l.cores l.later;
 }

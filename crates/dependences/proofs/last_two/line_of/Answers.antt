@@ -1,5 +1,4 @@
 use Rattle.std.proofs.Common.{◌<◌, sym, subst, ◌∙◌}
-use Rattle.rv32_image.specs.Places.{place}
 use Rattle.spec_history.specs.Conflict.{line_count}
 use Rattle.spec_history.proofs.Searches.Lines.{number_counted, line_is}
 use Rattle.dependences.proofs.last_two.line_of.Goals as goal

@@ -9,7 +9,8 @@ use Rattle.rv32_exec.specs.Arrival.{after_number}
 use Rattle.rv32_exec.specs.Sequential.{exits}
 use Rattle.rv32_exec.proofs.Accesses.{stop_of_event}
 use Rattle.spec_history.proofs.OneEntry.Accesses.{load_counts}
-use Rattle.dependences.proofs.Following.{Following, following_load, following_start, following_store, kept_after, runs_in_order, writers_below}
+use Rattle.dependences.specs.KeptRun.{Following}
+use Rattle.dependences.proofs.Following.{following_load, following_start, following_store, kept_after, runs_in_order, writers_below}
 use Rattle.dependences.proofs.Outside.{OnPath, done_before, ends_so, no_exit, no_fault}
 use Rattle.dependences.specs.Conflict.{memory_before}
 use Rattle.dependences.proofs.nearest.follow.Goals as goal

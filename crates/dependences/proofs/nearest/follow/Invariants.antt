@@ -1,5 +1,5 @@
 use Rattle.std.proofs.Common.{◌-◌, ◌+◌, ◌≤◌}
-use Rattle.dependences.proofs.Following.{Following}
+use Rattle.dependences.specs.KeptRun.{Following}
 use Rattle.dependences.proofs.nearest.follow.Given as goal
 
 -- it is kept what the epoch has done so far

@@ -1,0 +1,173 @@
+-- Sums of dependences by pairs of instructions, of which a few are at hand.
+use Rattle.std.proofs.Common.{◌≡◌, ◌≢◌, ◌⊎◌, ℕ, ◌+◌, ◌<◌, ◌≤◌, ◌==◌, ◌&&◌, Bool, true, false, cond, List, length, set, slice_index_or, Option, Some, None, refl, sym, ap, subst, ◌∙◌, inl, inr, arith, eqb-true, eq-eqb, get_or-set_same, get_or-set_other, length-set}
+use Rattle.std.proofs.lemmas.Bool.{and_parts, cases_eq}
+use Rattle.std.proofs.lemmas.Option.{slice_get-get_or}
+use Rattle.std.specs.BTreeMap.{BTreeMap, get}
+use Rattle.std.specs.Ordering.{is_eq}
+use Rattle.dependences.specs.declared.flow.Dependence.{Dependence}
+use Rattle.dependences.specs.declared.pairs.PairSum.{PairSum}
+use Rattle.dependences.specs.declared.pairs.Ready.{Ready}
+use Rattle.dependences.specs.Pairs.{by_pcs, joins, sum_more, sum_with}
+use Rattle.dependences.specs.KeptPairs.{AreAtHome, at_hand, kept_sum, slot, sum_or}
+use Rattle.dependences.proofs.Joining.{at_pcs}
+
+-- the sum of these two instructions
+abbrev pub row : Dependence → PairSum → Ready
+row x sum = record { store = x.store_pc; load = x.load_pc; sum = sum }
+
+both_so : (a b c d : ℕ) → a ≡ b → c ≡ d → ((a == b) && (c == d)) ≡ true
+both_so a b c d first second = rw (eq-eqb a b first, eq-eqb c d second) refl
+
+own_row : (x : Dependence) (sum : PairSum) → at_hand (Some (row x sum)) x.store_pc x.load_pc ≡ Some sum
+own_row x sum = rw (both_so x.store_pc x.store_pc x.load_pc x.load_pc refl refl) refl
+
+-- what stands at a place is of no load that is looked for elsewhere
+not_there : (ready : List (Option Ready)) (place store load : ℕ) → AreAtHome ready → slot load ≢ place → at_hand (slice_index_or ready place None) store load ≡ None
+not_there ready place store load home other = by_one (slice_index_or ready place None) refl where
+  by_test : (one : Ready) (b : Bool) → slice_index_or ready place None ≡ Some one → ((one.store == store) && (one.load == load)) ≡ b → cond b (Some one.sum) None ≡ None
+  by_test one true is same =
+      let parts = and_parts (one.store == store) (one.load == load) same in
+      absurd (other (ap slot (sym (eqb-true one.load load parts.1)) ∙ home.home place one is))
+  by_test one false is same = refl
+
+  by_one : (o : Option Ready) → slice_index_or ready place None ≡ o → at_hand o store load ≡ None
+  by_one None is = refl
+  by_one (Some one) is = by_test one ((one.store == store) && (one.load == load)) is refl
+
+pub home_set : (ready : List (Option Ready)) (place : ℕ) (one : Ready) → AreAtHome ready → slot one.load ≡ place → place < 256 → AreAtHome (set ready place (Some one))
+home_set ready place one home is few = record {
+  long = length-set ready place (Some one) ∙ home.long;
+  home = λ p other at. elim (cases_eq p place) [
+    | inl e ↦
+        (let there : Some one ≡ Some other = sym (get_or-set_same ready place (Some one) None (rw home.long few)) ∙ (sym (ap (λ q. slice_index_or (set ready place (Some one)) q None) e) ∙ at) in
+        let same : one ≡ other = cc in ap (λ (r : Ready). slot r.load) (sym same) ∙ (is ∙ sym e))
+    | inr apart ↦ home.home p other (sym (get_or-set_other ready place p (Some one) None apart) ∙ at)
+  ];
+}
+
+-- a sum in place of what stood there
+module _ (ready : List (Option Ready)) (old new : BTreeMap (ℕ × ℕ) PairSum) (x : Dependence) (sum : PairSum) (home : AreAtHome ready) where
+  abbrev after : List (Option Ready)
+  after = set ready (slot x.load_pc) (Some (row x sum))
+
+  few : slot x.load_pc < length ready
+  few = rw home.long (omega arith)
+
+  here : (load : ℕ) → slot load ≡ slot x.load_pc → slice_index_or after (slot load) None ≡ Some (row x sum)
+  here load is = ap (λ p. slice_index_or after p None) is ∙ get_or-set_same ready (slot x.load_pc) (Some (row x sum)) None few
+
+  there : (load : ℕ) → slot load ≢ slot x.load_pc → slice_index_or after (slot load) None ≡ slice_index_or ready (slot load) None
+  there load other = get_or-set_other ready (slot x.load_pc) (slot load) (Some (row x sum)) None other
+
+  of_pair : (store load : ℕ) → joins store load x ≡ true → kept_sum after new store load ≡ Some sum
+  of_pair store load is =
+      let parts = and_parts (x.store_pc == store) (x.load_pc == load) is in
+      let second : x.load_pc ≡ load = eqb-true x.load_pc load parts.1 in
+      rw (here load (ap slot (sym second)), is) refl
+
+  of_slot : (store load : ℕ) → joins store load x ≡ false → slot load ≡ slot x.load_pc → kept_sum after new store load ≡ get by_pcs new (store, load)
+  of_slot store load other is = rw (here load is, other) refl
+
+  -- where the map has what was at hand there
+  of_others : (store load : ℕ) → joins store load x ≡ false
+      → ((s l : ℕ) → get by_pcs new (s, l) ≡ sum_or (at_hand (slice_index_or ready (slot x.load_pc) None) s l) (get by_pcs old (s, l)))
+      → kept_sum after new store load ≡ kept_sum ready old store load
+  of_others store load other puts = elim (cases_eq (slot load) (slot x.load_pc)) [
+    | inl is ↦ of_slot store load other is ∙ (puts store load ∙ ap (λ p. sum_or (at_hand (slice_index_or ready p None) store load) (get by_pcs old (store, load))) (sym is))
+    | inr apart ↦
+        (let same : get by_pcs new (store, load) ≡ get by_pcs old (store, load) = puts store load ∙ rw (not_there ready (slot x.load_pc) store load home apart) refl in
+        rw (there load apart, same) refl)
+  ]
+
+  added_by : (store load : ℕ) (b : Bool) (was : Option PairSum) → joins store load x ≡ b → sum_with was x ≡ Some sum
+      → ((s l : ℕ) → get by_pcs new (s, l) ≡ sum_or (at_hand (slice_index_or ready (slot x.load_pc) None) s l) (get by_pcs old (s, l)))
+      → kept_sum after new store load ≡ cond b (sum_with was x) (kept_sum ready old store load)
+  added_by store load true was is more puts = of_pair store load is ∙ sym more
+  added_by store load false was is more puts = of_others store load is puts
+
+  -- the sum has one more
+  pub made_ready : at_hand (slice_index_or ready (slot x.load_pc) None) x.store_pc x.load_pc ≡ None → sum_with (get by_pcs old (x.store_pc, x.load_pc)) x ≡ Some sum
+      → ((s l : ℕ) → get by_pcs new (s, l) ≡ sum_or (at_hand (slice_index_or ready (slot x.load_pc) None) s l) (get by_pcs old (s, l)))
+      → (store load : ℕ) → kept_sum after new store load
+      ≡ cond (is_eq (by_pcs (x.store_pc, x.load_pc) (store, load))) (sum_with (kept_sum ready old x.store_pc x.load_pc) x) (kept_sum ready old store load)
+  made_ready none more puts store load =
+      added_by store load (joins store load x) (kept_sum ready old x.store_pc x.load_pc) refl (rw none more) puts
+      ∙ ap (λ b. cond b (sum_with (kept_sum ready old x.store_pc x.load_pc) x) (kept_sum ready old store load)) (sym (at_pcs store load x))
+
+-- it was at hand, and has one more
+pub counted_ready : (ready : List (Option Ready)) (sums : BTreeMap (ℕ × ℕ) PairSum) (x : Dependence) (was : PairSum) → AreAtHome ready → slice_index_or ready (slot x.load_pc) None ≡ Some (row x was)
+    → (store load : ℕ) → kept_sum (set ready (slot x.load_pc) (Some (row x (sum_more was x)))) sums store load
+    ≡ cond (is_eq (by_pcs (x.store_pc, x.load_pc) (store, load))) (sum_with (kept_sum ready sums x.store_pc x.load_pc) x) (kept_sum ready sums store load)
+counted_ready ready sums x was home at store load =
+    by_joins (joins store load x) refl ∙ ap (λ b. cond b (sum_with (kept_sum ready sums x.store_pc x.load_pc) x) (kept_sum ready sums store load)) (sym (at_pcs store load x))
+  where
+    own : kept_sum ready sums x.store_pc x.load_pc ≡ Some was
+    own = rw (at, own_row x was) refl
+
+    by_slot : joins store load x ≡ false → kept_sum (set ready (slot x.load_pc) (Some (row x (sum_more was x)))) sums store load ≡ kept_sum ready sums store load
+    by_slot other = elim (cases_eq (slot load) (slot x.load_pc)) [
+      | inl is ↦ of_slot ready sums sums x (sum_more was x) home store load other is ∙ sym (rw (is, at, other) refl)
+      | inr apart ↦ rw (there ready sums sums x (sum_more was x) home load apart) refl
+    ]
+
+    by_joins : (b : Bool) → joins store load x ≡ b
+        → kept_sum (set ready (slot x.load_pc) (Some (row x (sum_more was x)))) sums store load ≡ cond b (sum_with (kept_sum ready sums x.store_pc x.load_pc) x) (kept_sum ready sums store load)
+    by_joins true is = of_pair ready sums sums x (sum_more was x) home store load is ∙ rw own refl
+    by_joins false is = by_slot is
+
+-- what stands at a place within the list, whatever stands past it
+at_place : (ready : List (Option Ready)) (place : ℕ) (o : Option Ready) → place < length ready → o ≡ slice_index_or ready place o → slice_index_or ready place None ≡ o
+at_place ready place o within is =
+    let same : Some (slice_index_or ready place None) ≡ Some (slice_index_or ready place o) = sym (slice_get-get_or ready place None within) ∙ slice_get-get_or ready place o within in
+    let one : slice_index_or ready place None ≡ slice_index_or ready place o = cc in one ∙ sym is
+
+pub looked_at : (ready : List (Option Ready)) (place load : ℕ) (o : Option Ready) → AreAtHome ready → place ≡ slot load → place < 256 → o ≡ slice_index_or ready place o
+    → slice_index_or ready (slot load) None ≡ o
+looked_at ready place load o home is few value = subst (λ p. slice_index_or ready p None ≡ o) is (at_place ready place o (rw home.long few) value)
+
+-- the pair of the dependence is there
+pub row_there : (ready : List (Option Ready)) (x : Dependence) (one : Ready) → slice_index_or ready (slot x.load_pc) None ≡ Some one → one.store ≡ x.store_pc → one.load ≡ x.load_pc
+    → slice_index_or ready (slot x.load_pc) None ≡ Some (row x one.sum)
+row_there ready x one at first second =
+    at ∙ (ap (λ n. let r : Ready = record { store = n; load = one.load; sum = one.sum } in Some r) first ∙ ap (λ n. let r : Ready = record { store = x.store_pc; load = n; sum = one.sum } in Some r) second)
+
+pub sum_there : (ready : List (Option Ready)) (sums : BTreeMap (ℕ × ℕ) PairSum) (x : Dependence) (sum : PairSum) → slice_index_or ready (slot x.load_pc) None ≡ Some (row x sum)
+    → kept_sum ready sums x.store_pc x.load_pc ≡ Some sum
+sum_there ready sums x sum at = rw (at, own_row x sum) refl
+
+-- the one at hand is of another pair
+pub not_ready : (ready : List (Option Ready)) (x : Dependence) (o : Option Ready) → slice_index_or ready (slot x.load_pc) None ≡ o
+    → ((one : Ready) → o ≡ Some one → (one.store ≢ x.store_pc) ⊎ (one.load ≢ x.load_pc)) → at_hand (slice_index_or ready (slot x.load_pc) None) x.store_pc x.load_pc ≡ None
+not_ready ready x None at other = rw at refl
+not_ready ready x (Some one) at other = rw at (by_test ((one.store == x.store_pc) && (one.load == x.load_pc)) refl) where
+  by_test : (b : Bool) → ((one.store == x.store_pc) && (one.load == x.load_pc)) ≡ b → cond b (Some one.sum) None ≡ None
+  by_test true is =
+      let parts = and_parts (one.store == x.store_pc) (one.load == x.load_pc) is in
+      elim (other one refl) [ inl first ↦ absurd (first (eqb-true one.store x.store_pc parts.0)) | inr second ↦ absurd (second (eqb-true one.load x.load_pc parts.1)) ]
+  by_test false is = refl
+
+-- ---- all sums
+
+-- those of the places so far are in the map
+pub record ArePutBack (ready : List (Option Ready)) (first now : BTreeMap (ℕ × ℕ) PairSum) (places : ℕ) : Type 0 where
+  pub below : (store load : ℕ) → slot load < places → get by_pcs now (store, load) ≡ kept_sum ready first store load
+  pub above : (store load : ℕ) → places ≤ slot load → get by_pcs now (store, load) ≡ get by_pcs first (store, load)
+
+pub none_put_back : (ready : List (Option Ready)) (sums : BTreeMap (ℕ × ℕ) PairSum) → ArePutBack ready sums sums 0
+none_put_back ready sums = record { below = λ store load low. absurd (omega (arith, low)); above = λ store load from. refl }
+
+pub more_put_back : (ready : List (Option Ready)) (first now next : BTreeMap (ℕ × ℕ) PairSum) (place : ℕ) → AreAtHome ready → ArePutBack ready first now place
+    → ((s l : ℕ) → get by_pcs next (s, l) ≡ sum_or (at_hand (slice_index_or ready place None) s l) (get by_pcs now (s, l))) → ArePutBack ready first next (place + 1)
+more_put_back ready first now next place home are puts = record {
+  below = λ store load low. elim (cases_eq (slot load) place) [
+    | inl is ↦
+        puts store load ∙ (ap (λ p. sum_or (at_hand (slice_index_or ready p None) store load) (get by_pcs now (store, load))) (sym is)
+        ∙ ap (λ o. sum_or (at_hand (slice_index_or ready (slot load) None) store load) o) (are.above store load (omega (arith, is))))
+    | inr apart ↦ puts store load ∙ (rw (not_there ready place store load home apart) refl ∙ are.below store load (omega (arith, low, apart)))
+  ];
+  above = λ store load from. puts store load ∙ (rw (not_there ready place store load home (omega (arith, from))) refl ∙ are.above store load (omega (arith, from)));
+}
+
+pub all_put_back : (ready : List (Option Ready)) (first now : BTreeMap (ℕ × ℕ) PairSum) (places store load : ℕ) → 256 ≤ places → ArePutBack ready first now places
+    → get by_pcs now (store, load) ≡ kept_sum ready first store load
+all_put_back ready first now places store load all are = are.below store load (omega (arith, all))

@@ -1,6 +1,0 @@
-use Rattle.dependences.proofs.Flowing.{IsFoundSo}
-use Rattle.dependences.proofs.flow.nearest_byte.Given as goal
-
--- the nearest of the bytes so far
-abbrev pub invariant-loop-byte : goal.invariant-loop-byte
-invariant-loop-byte l = IsFoundSo l.writers l.epoch l.addr l.byte l.latest l.nearest

@@ -1,0 +1,88 @@
+-- What the code keeps of an epoch while it runs in order.
+use Rattle.std.specs.Prelude.{◌≡◌, ℕ, ◌+◌, ◌<◌, ◌≤◌, false, List, length, Option, Some, None, slice_index}
+use Rattle.memory_bytes.specs.Maps.{over}
+use Rattle.rv32_image.specs.Image.{LoadedImage, IsImage}
+use Rattle.rv32_exec.specs.Hart.{HartState, start_of}
+use Rattle.rv32_exec.specs.NextEvent.{next_event}
+use Rattle.rv32_exec.specs.Sequential.{Runs, after_steps}
+use Rattle.spec_history.specs.Laws.{Holds}
+use Rattle.dependences.specs.declared.flow.Dependence.{Dependence}
+use Rattle.dependences.specs.declared.flow.Flow.{Flow}
+use Rattle.dependences.specs.Paths.{StoresAt}
+use Rattle.dependences.specs.Conflict.{IsInOrder, memory_before}
+use Rattle.dependences.specs.Nearest.{Depends, IsNearestLater}
+use Rattle.dependences.specs.Kept.{AreKept, DependsBefore, IsLastWriter, IsLeast}
+use Rattle.dependences.specs.KeptStores.{AreBefore, AreLong, AreStoresKept, IsStoredLast, Stores}
+
+-- the epoch is on its path over this memory: it has come to this hart, and these are the bytes that it has stored
+pub record IsAt (image : LoadedImage) (epoch : ℕ) (memory : List ℕ) (h : HartState) (own : ℕ → Option ℕ) : Type 0 where
+  pub after : List ℕ
+  pub runs : after_steps image h.done (start_of image epoch) memory ≡ Runs h after
+  pub holds : Holds image (over own (λ a. slice_index memory a)) after
+  pub early : (a byte : ℕ) → own a ≡ Some byte → (step : ℕ) × (step < h.done) × StoresAt image epoch memory step a
+  pub no_others : (a step : ℕ) → own a ≡ None → step < h.done → StoresAt image epoch memory step a → ⊥
+
+-- an epoch before this one depends on another this far before it, or this one does, by what it has loaded so far
+pub data DependsUpTo (image : LoadedImage) (epoch done distance : ℕ) : Type 0 where
+  before_it : DependsBefore image epoch distance → DependsUpTo image epoch done distance
+  by_it : (earlier : ℕ) → epoch ≡ earlier + distance → (depends : Depends image earlier epoch) → depends.reads.step < done → DependsUpTo image epoch done distance
+
+-- the epoch runs over memory, from this hart on
+pub record Following (image : LoadedImage) (epoch : ℕ) (memory writers : List ℕ) (h : HartState) (nearest : Option ℕ) : Type 0 where
+  pub own : ℕ → Option ℕ
+  pub at : IsAt image epoch (memory_before image epoch) h own
+  pub is : at.after ≡ memory
+  pub long : length writers ≡ image.size
+  pub mine : (a byte : ℕ) → own a ≡ Some byte → slice_index writers a ≡ epoch + 1
+  pub others : (a : ℕ) → own a ≡ None → IsLastWriter image epoch a (slice_index writers a)
+  pub least : IsLeast (DependsUpTo image epoch h.done) nearest
+
+-- ---- dependences
+
+-- the epoch has stored the byte last at this step, of those so far
+pub record IsMine (image : LoadedImage) (epoch done a writer stored pc : ℕ) : Type 0 where
+  pub number : writer ≡ epoch + 1
+  pub there : StoresAt image epoch (memory_before image epoch) stored a
+  pub is : pc ≡ there.hart.pc
+  pub last : (step : ℕ) → step < done → StoresAt image epoch (memory_before image epoch) step a → step ≤ stored
+
+-- the epoch runs over memory, from this hart on
+pub record Flowing (image : LoadedImage) (epoch : ℕ) (memory : List ℕ) (s : Stores) (h : HartState) (found : List Dependence) : Type 0 where
+  pub own : ℕ → Option ℕ
+  pub at : IsAt image epoch (memory_before image epoch) h own
+  pub is : at.after ≡ memory
+  pub long : AreLong s image.size
+  pub mine : (a byte : ℕ) → own a ≡ Some byte → IsMine image epoch h.done a (slice_index s.writers a) (slice_index s.steps a) (slice_index s.pcs a)
+  pub others : (a : ℕ) → own a ≡ None → IsStoredLast image epoch a (slice_index s.writers a) (slice_index s.steps a) (slice_index s.pcs a)
+  pub list : AreBefore image epoch h.done found
+
+-- ---- between epochs
+
+-- it is all kept of the epochs before this one
+pub record IsFlowKept {F : Type 0} (keeps : F → List Dependence → Type 0) (image : LoadedImage) (epoch : ℕ) (flow : Flow F) : Type 0 where
+  pub found : List Dependence
+  pub list : keeps flow.found found
+  pub stores : AreStoresKept image epoch flow.stores found
+  pub writers : AreKept image epoch flow.stores.writers flow.nearest
+  pub later : IsNearestLater found flow.nearest flow.later
+  pub room : flow.is_full ≡ false
+
+-- ---- at any hart
+
+-- from the last hart on at which it was right no load or store has come
+pub record IsKeptUpTo {F : Type 0} (keeps : F → List Dependence → Type 0) (image : LoadedImage) (flow : Flow F) (h : HartState) (memory : List ℕ) : Type 0 where
+  pub found : List Dependence
+  pub list : keeps flow.found found
+  pub from : HartState
+  pub same : next_event image from ≡ next_event image h
+  pub flowing : Flowing image flow.epoch memory flow.stores from found
+  pub following : Following image flow.epoch memory flow.stores.writers from flow.nearest
+  pub later : IsNearestLater found flow.nearest flow.later
+
+-- it is so where there was memory
+pub record IsRight {F : Type 0} (keeps : F → List Dependence → Type 0) (image : LoadedImage) (flow : Flow F) (h : HartState) (memory : List ℕ) : Type 0 where
+  pub limits : IsImage image
+  pub long : AreLong flow.stores image.size
+  pub within : flow.epoch < image.epochs
+  pub order : IsInOrder image flow.epoch
+  pub kept : flow.is_full ≡ false → IsKeptUpTo keeps image flow h memory

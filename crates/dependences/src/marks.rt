@@ -1,0 +1,90 @@
+//! A number beside each byte of memory.
+ghost use Rattle.std.specs.Prelude.{◌≡◌, ◌+◌, ◌<◌, ◌≤◌, ◌^◌, ℕ, IfOk, length, slice_index, vec_capacity};
+ghost use Rattle.dependences.specs.Kept.{IsMarked};
+
+use crate::nearest::mark;
+use rv32_exec::NoMemory;
+use std::alloc::Global;
+use std::marker::Model;
+
+/// Of each byte of memory a number, at first 0. Contracts see the list of these.
+///
+/// Numbers are made up to the highest byte that is marked, when it is, so memory is taken by what is touched.
+#[derive(Drop)]
+pub(crate) struct Marks {
+    numbers: Vec<u32>,
+    size: usize,
+}
+
+impl Model for Marks {
+    ghost use Rattle.std.specs.Prelude.{ℕ, List, vec_capacity};
+    ghost use Rattle.dependences.specs.KeptMarks.{HasRoom, filled};
+
+    ghost Value = { List ℕ };
+
+    ghost view = { λ m. filled m.numbers.items m.size };
+
+    ghost invariant = { λ m. HasRoom m.numbers.items m.size (vec_capacity m.numbers) };
+}
+
+impl Marks {
+    /// Of so many bytes, 0 each.
+    ///
+    /// `NoMemory`: there was no room for them.
+    pub(crate) fn none(alloc: Global, size: usize) -> Result<Marks, NoMemory>
+        ensures long { IfOk result (λ m. length m ≡ size) }
+        ensures none { IfOk result (λ m. (a : ℕ) → slice_index m a ≡ 0) }
+    {
+        let numbers = Vec::with_capacity(alloc, size)?;
+        Ok(Marks { numbers, size })
+    }
+
+    /// The number of a byte.
+    #[inline(always)]
+    pub(crate) fn at(&self, byte: u32) -> u32
+        ensures { result ≡ slice_index self.now byte }
+    {
+        match self.numbers.get(byte as usize) {
+            Some(number) => *number,
+            None => 0,
+        }
+    }
+
+    /// Gives the bytes of an access this number.
+    #[inline(always)]
+    pub(crate) fn mark(&mut self, addr: u32, width: u32, number: u32)
+        requires small { length self.old < 2 ^ 32 }
+        requires within { addr + width ≤ length self.old }
+        ensures long { length self.new ≡ length self.old }
+        ensures marked { IsMarked self.old self.new addr width number }
+    {
+        reach(&mut self.numbers, (addr + width) as usize);
+        mark(self.numbers.as_mut_slice(), addr, width, number);
+    }
+}
+
+/// Makes numbers up to this place, for which there is room.
+#[inline(always)]
+fn reach(numbers: &mut Vec<u32>, end: usize)
+    requires { end ≤ vec_capacity numbers.old }
+    ensures there { end ≤ length numbers.new.items }
+    ensures within { (size : ℕ) → end ≤ size → length numbers.old.items ≤ size → length numbers.new.items ≤ size }
+    ensures same { (a : ℕ) → slice_index numbers.new.items a ≡ slice_index numbers.old.items a }
+    ensures capacity { vec_capacity numbers.old ≤ vec_capacity numbers.new }
+{
+    if end > numbers.len() {
+        lengthen(numbers, end);
+    }
+}
+
+/// Makes numbers up to this place, which is past them.
+#[inline(never)]
+fn lengthen(numbers: &mut Vec<u32>, end: usize)
+    requires past { length numbers.old.items ≤ end }
+    requires room { end ≤ vec_capacity numbers.old }
+    ensures there { length numbers.new.items ≡ end }
+    ensures same { (a : ℕ) → slice_index numbers.new.items a ≡ slice_index numbers.old.items a }
+    ensures capacity { vec_capacity numbers.old ≤ vec_capacity numbers.new }
+{
+    numbers.resize(end, 0).unwrap();
+}
