@@ -183,10 +183,8 @@ lines_few image is =
     let lines : line_count image ≤ place image.machine image.size image.size = div-le_self (place image.machine image.size image.size) image.machine.line_length in
     omega (arith, few, lines)
 
-pub inside_of : (image : LoadedImage) (epoch a : ℕ) (t : Touched) → IsImage image → AreTouches image t → epoch < image.epochs → a < image.size
-    → IsInside t epoch (line_number image a)
-inside_of image epoch a t is long within below =
-    let line = number_counted image a is.machine_allowed below in
+pub inside_at : (image : LoadedImage) (epoch line : ℕ) (t : Touched) → IsImage image → AreTouches image t → epoch < image.epochs → line < line_count image → IsInside t epoch line
+inside_at image epoch number t is long within line =
     let most = is.epochs_most in
     let small = lines_few image is in record {
       last = omega (arith, line, long.lines.last);
@@ -196,6 +194,10 @@ inside_of image epoch a t is long within below =
       short = omega (arith, within, most);
       few = λ e. let few = long.few e in omega (arith, few, small);
     }
+
+inside_of : (image : LoadedImage) (epoch a : ℕ) (t : Touched) → IsImage image → AreTouches image t → epoch < image.epochs → a < image.size
+    → IsInside t epoch (line_number image a)
+inside_of image epoch a t is long within below = inside_at image epoch (line_number image a) t is long within (number_counted image a is.machine_allowed below)
 
 module _ (image : LoadedImage) (cores epoch line : ℕ) (t : Touched) (inside : IsInside t epoch line) (long : AreTouches image t) where
   pub touch_long : SharesSoFar image cores epoch (after_touch t image.machine.buffer_lines cores epoch line) → AreTouches image (after_touch t image.machine.buffer_lines cores epoch line)

@@ -19,6 +19,7 @@ use Rattle.dependences.specs.declared.flow.Dependence.{Dependence}
 use Rattle.dependences.specs.Paths.{LoadsAt, ReadsOutside, StoresAt}
 use Rattle.dependences.specs.Conflict.{IsInOrder, memory_before}
 use Rattle.dependences.specs.Flow.{AreDependences, DependsAt, IsBefore, IsDependence, LastStore}
+use Rattle.dependences.specs.Nearest.{IsNearestLater}
 use Rattle.dependences.specs.Kept.{AreAll}
 use Rattle.dependences.specs.KeptStores.{AreBefore, AreMarked, IsNearest, IsNearestByte, IsNoted, IsStoredLast, Stores, AreStoresKept, dependence_of, noted}
 use Rattle.dependences.specs.KeptRun.{Flowing, IsAt, IsMine}
@@ -36,6 +37,14 @@ got_old (z ∷ xs) y x (suc k) is = got_old xs y x k is
 got_new : {X : Type 0} (xs : List X) (y : X) → slice_get (xs ++ y ∷ []) (length xs) ≡ Some y
 got_new [] y = refl
 got_new (z ∷ xs) y = got_new xs y
+
+-- one more dependence is the nearest now, or another still is
+pub later_new : (list : List Dependence) (x : Dependence) → IsNearestLater (list ++ x ∷ []) (Some (x.later - x.earlier)) x.later
+later_new list x = (length list, x, got_new list x, refl, refl)
+
+pub later_old : (list : List Dependence) (x : Dependence) (nearest : Option ℕ) (later : ℕ) → IsNearestLater list nearest later → IsNearestLater (list ++ x ∷ []) nearest later
+later_old list x (Some distance) later is = (is.0, is.1, got_old list x is.1 is.0 is.2, is.3, is.4)
+later_old list x None later is = tt
 
 got_either : {X : Type 0} (xs : List X) (y x : X) (k : ℕ) → slice_get (xs ++ y ∷ []) k ≡ Some x → (slice_get xs k ≡ Some x) ⊎ ((k ≡ length xs) × (y ≡ x))
 got_either [] y x zero is = inr (refl, cc)

@@ -21,6 +21,7 @@ pub mod Violations
 -- What is kept of the run in order, and how near epochs depend on each other there.
 pub mod Writers
 pub mod Marking
+pub mod WholeWords
 pub mod Following
 -- Epochs past the end: each alone, and whether it conflicts.
 pub mod Outside

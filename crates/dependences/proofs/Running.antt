@@ -22,7 +22,7 @@ use Rattle.dependences.specs.KeptStores.{AreMarked, AreStoresKept, IsNearest, Is
 use Rattle.dependences.specs.Flow.{AreDependences}
 use Rattle.dependences.specs.Lengths.{Lasts}
 use Rattle.dependences.specs.Nearest.{Depends, IsLaterAt, IsNearestLater}
-use Rattle.dependences.specs.KeptRun.{Flowing, Following, IsFlowKept, IsKeptUpTo, IsRight}
+use Rattle.dependences.specs.KeptRun.{IsLoadKept, Flowing, Following, IsFlowKept, IsKeptUpTo, IsRight}
 use Rattle.dependences.proofs.Following.{following_load, following_start, following_store, kept_after, runs_in_order, writers_below}
 use Rattle.dependences.proofs.Flowing.{flowing_load, flowing_path, flowing_start, flowing_store, kept_on}
 use Rattle.dependences.proofs.Outside.{done_before, lasts, next_so}
@@ -117,17 +117,6 @@ nearest_by writers epoch address width None nearest below near =
 noted_same : (s : Stores) (epoch : ℕ) (h : HartState) (byte : Option ℕ) (list : List Dependence) → noted_at s epoch h.pc h.done byte list ≡ noted s epoch h byte list
 noted_same s epoch h None list = refl
 noted_same s epoch h (Some byte) list = refl
-
--- what is kept after a load
-pub record IsLoadKept {F : Type 0} (keeps : F → List Dependence → Type 0) (old new : Flow F) (pc done address width : ℕ) : Type 0 where
-  pub epoch : new.epoch ≡ old.epoch
-  pub stores : new.stores ≡ old.stores
-  pub byte : Option ℕ
-  pub near : IsNearestByte old.stores.writers old.epoch address width byte
-  pub nearest : new.nearest ≡ nearest_after old.stores.writers old.epoch byte old.nearest
-  pub room : old.is_full ≡ false
-  pub found : (list : List Dependence) → keeps old.found list → keeps new.found (noted_at old.stores old.epoch pc done byte list)
-  pub later : (list : List Dependence) → IsNearestLater list old.nearest old.later → IsNearestLater (noted_at old.stores old.epoch pc done byte list) new.nearest new.later
 
 kept_load : {F : Type 0} (keeps : F → List Dependence → Type 0) (image : LoadedImage) (old new : Flow F) (h : HartState) (memory : List ℕ) (address width : ℕ) (signed : Bool) (rd : ℕ)
     → IsRight keeps image old h memory → hart_effect image h ≡ Stops (stop.Load address width signed rd) → IsLoadKept keeps old new h.pc h.done address width

@@ -12,7 +12,7 @@ use Rattle.dependences.specs.Paths.{StoresAt}
 use Rattle.dependences.specs.Conflict.{IsInOrder, memory_before}
 use Rattle.dependences.specs.Nearest.{Depends, IsNearestLater}
 use Rattle.dependences.specs.Kept.{AreKept, DependsBefore, IsLastWriter, IsLeast}
-use Rattle.dependences.specs.KeptStores.{AreBefore, AreLong, AreStoresKept, IsStoredLast, Stores}
+use Rattle.dependences.specs.KeptStores.{AreBefore, AreLong, AreStoresKept, IsNearestByte, IsStoredLast, Stores, nearest_after, noted_at}
 
 -- the epoch is on its path over this memory: it has come to this hart, and these are the bytes that it has stored
 pub record IsAt (image : LoadedImage) (epoch : ℕ) (memory : List ℕ) (h : HartState) (own : ℕ → Option ℕ) : Type 0 where
@@ -86,3 +86,16 @@ pub record IsRight {F : Type 0} (keeps : F → List Dependence → Type 0) (imag
   pub within : flow.epoch < image.epochs
   pub order : IsInOrder image flow.epoch
   pub kept : flow.is_full ≡ false → IsKeptUpTo keeps image flow h memory
+
+-- ---- after a load
+
+-- what is kept after a load
+pub record IsLoadKept {F : Type 0} (keeps : F → List Dependence → Type 0) (old new : Flow F) (pc done address width : ℕ) : Type 0 where
+  pub epoch : new.epoch ≡ old.epoch
+  pub stores : new.stores ≡ old.stores
+  pub byte : Option ℕ
+  pub near : IsNearestByte old.stores.writers old.epoch address width byte
+  pub nearest : new.nearest ≡ nearest_after old.stores.writers old.epoch byte old.nearest
+  pub room : old.is_full ≡ false
+  pub found : (list : List Dependence) → keeps old.found list → keeps new.found (noted_at old.stores old.epoch pc done byte list)
+  pub later : (list : List Dependence) → IsNearestLater list old.nearest old.later → IsNearestLater (noted_at old.stores old.epoch pc done byte list) new.nearest new.later

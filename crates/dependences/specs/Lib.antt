@@ -16,6 +16,9 @@ pub mod Lengths
 pub mod Kept
 pub mod KeptMarks
 pub mod KeptStores
+pub mod KeptBytes
+pub mod KeptWords
+pub mod KeptLast
 pub mod KeptRun
 pub mod KeptPairs
 pub mod KeptLines

@@ -1,5 +1,4 @@
 ghost use Rattle.std.specs.Prelude.{◌≡◌, ℕ, ◌+◌, ◌<◌, ◌≤◌, IfOk, None, [], ◌∷◌, length};
-ghost use Rattle.rv32_image.specs.Image.{IsImage};
 ghost use Rattle.rv32_exec.specs.declared.sequential.End.TheVariants.{Done};
 ghost use Rattle.rv32_exec.specs.Sequential.{first_epochs};
 ghost use Rattle.dependences.specs.Conflict.{IsInOrder, Overflow, first_beside, run_memory};
@@ -14,6 +13,7 @@ use crate::alone::run_between;
 use crate::beside::first_beside;
 use crate::ends::next_runs;
 use crate::epoch::Epoch;
+use crate::last_two::line_of;
 use crate::lines::Lines;
 use crate::touches::Touches;
 use rv32_exec::{NoMemory, Notes, start};
@@ -72,11 +72,15 @@ impl Notes for Watch {
         }
         let epoch = self.epoch.number();
         let first = first_beside(self.cores, epoch);
-        if self.lines.meets(image, self.epoch, first, addr, width) {
+        let line = line_of(image, addr);
+        if self
+            .lines
+            .meets(image, line, self.epoch, first, addr, width)
+        {
             self.has_met = true;
             return;
         }
-        self.touches.touch(image, self.cores, epoch, addr);
+        self.touches.touch(image, self.cores, epoch, line);
     }
 
     #[inline(always)]
@@ -85,9 +89,10 @@ impl Notes for Watch {
             return;
         }
         let epoch = self.epoch.number();
-        self.lines.store(image, self.epoch, addr, width);
-        self.touches.touch(image, self.cores, epoch, addr);
-        self.touches.store(image, self.cores, epoch, addr);
+        let line = line_of(image, addr);
+        self.lines.store(image, line, self.epoch, addr, width);
+        self.touches.touch(image, self.cores, epoch, line);
+        self.touches.store(image, self.cores, epoch, line);
     }
 }
 

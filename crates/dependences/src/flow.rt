@@ -1,12 +1,13 @@
-ghost use Rattle.std.specs.Prelude.{◌≡◌, ℕ, ◌+◌, ◌<◌, ◌≤◌, ◌^◌, IfOk, OnOk, Some, None, ◌++◌, ◌∷◌, [], List, length, slice_index, true, false};
-ghost use Rattle.rv32_image.specs.Image.{IsImage};
+ghost use Rattle.std.specs.Prelude.{◌≡◌, ℕ, ◌+◌, ◌-◌, ◌%◌, ◌<◌, ◌≤◌, ◌^◌, IfOk, OnOk, Some, None, ◌++◌, ◌∷◌, [], List, length, slice_index, true, false};
+ghost use Rattle.memory_bytes.specs.Bytes.{IsWidth};
 ghost use Rattle.rv32_exec.specs.declared.sequential.End.TheVariants.{Done};
 ghost use Rattle.rv32_exec.specs.Sequential.{first_epochs};
 ghost use Rattle.dependences.specs.declared.flow.Dependence.{Dependence};
 ghost use Rattle.dependences.specs.Flow.{AreDependences};
 ghost use Rattle.dependences.specs.Kept.{CanRun, IsNext};
 ghost use Rattle.dependences.specs.Kept as spec_kept;
-ghost use Rattle.dependences.specs.KeptRun.{IsFlowKept};
+ghost use Rattle.dependences.specs.KeptRun.{IsFlowKept, IsLoadKept};
+ghost use Rattle.dependences.specs.KeptLast.{dependence_by};
 ghost use Rattle.dependences.specs.KeptStores as spec;
 ghost use Rattle.dependences.specs.Lengths.{AreLengths, Lasts};
 ghost use Rattle.dependences.specs.Nearest.{IsLaterAt, IsNearest, IsNearestLater};
@@ -14,8 +15,9 @@ ghost use Rattle.dependences.specs.Summed.{AreSums};
 
 use crate::ends::next_runs;
 use crate::epoch::Epoch;
-use crate::last_stores::LastStores;
+use crate::last_stores::{LastStore, LastStores};
 use crate::pairs::{PairSum, PairSums};
+use crate::word_stores::Word;
 use rv32_exec::{NoMemory, Notes, start};
 use rv32_image::Image;
 use std::alloc::Global;
@@ -57,7 +59,7 @@ pub struct RunInOrder {
 /// The sums of the dependences of the run in order, how many instructions its epochs execute, and how near they depend on each other:
 /// one run shows all.
 ///
-/// `NoMemory`: there was none for a copy of the image's bytes, three words beside each, the sums, and two words for each epoch.
+/// `NoMemory`: there was none for a copy of the image's bytes, four words beside each, the sums, and two words for each epoch.
 pub fn shown_in_order(alloc: Global, image: &Image) -> Result<RunInOrder, NoMemory>
     ensures sums { IfOk result (λ shown. AreSums image.now shown.sums) }
     ensures lengths { IfOk result (λ shown. AreLengths image.now shown.lengths.items) }
@@ -76,7 +78,7 @@ pub fn shown_in_order(alloc: Global, image: &Image) -> Result<RunInOrder, NoMemo
 
 /// The dependences of the run in order: one of each load that reads from outside what an earlier epoch stores, in order.
 ///
-/// `NoMemory`: there was none for a copy of the image's bytes, three words beside each, the dependences, and two words for each epoch.
+/// `NoMemory`: there was none for a copy of the image's bytes, four words beside each, the dependences, and two words for each epoch.
 pub fn dependences_in_order(alloc: Global, image: &Image) -> Result<Vec<Dependence>, NoMemory>
     ensures { IfOk result (λ found. AreDependences image.now found.items) }
 {
@@ -132,16 +134,16 @@ pub(crate) trait Found: Drop {
     /// Keeps one more.
     ///
     /// `NoMemory`: there was none for it.
-    fn add(&mut self, one: &Dependence) -> Result<(), NoMemory>
+    fn add(&mut self, one: Dependence) -> Result<(), NoMemory>
         requires { (list : List Dependence) × keeps self.old list }
-        ensures { OnOk result ((list : List Dependence) → keeps self.old list → keeps self.new (list ++ one.now ∷ [])) };
+        ensures { OnOk result ((list : List Dependence) → keeps self.old list → keeps self.new (list ++ one ∷ [])) };
 }
 
 impl Found for Vec<Dependence> {
     ghost keeps = { λ found list. found.items ≡ list };
 
-    fn add(&mut self, one: &Dependence) -> Result<(), NoMemory> {
-        self.push(*one).map_err(|_| NoMemory)
+    fn add(&mut self, one: Dependence) -> Result<(), NoMemory> {
+        self.push(one).map_err(|_| NoMemory)
     }
 }
 
@@ -173,9 +175,7 @@ impl<F: Found> Notes for Flow<F> {
         if self.is_full {
             return;
         }
-        if let Some(byte) = self.stores.nearest_byte(self.epoch, addr, width) {
-            self.depend(pc, done, byte);
-        }
+        self.note_load(pc, done, addr, width);
     }
 
     #[inline(always)]
@@ -185,28 +185,70 @@ impl<F: Found> Notes for Flow<F> {
 }
 
 impl<F: Found> Flow<F> {
-    /// Notes a load that depends by this byte on an earlier epoch.
-    fn depend(&mut self, pc: u32, done: u64, byte: u32)
-        requires long { spec.AreLong self.old.stores (length self.old.stores.writers) }
-        requires within { byte < length self.old.stores.writers }
-        requires earlier { slice_index self.old.stores.writers byte ≤ self.old.epoch }
-        requires some { 0 < slice_index self.old.stores.writers byte }
+    /// Notes an aligned load, where there was memory for all before.
+    #[inline(always)]
+    fn note_load(&mut self, pc: u32, done: u64, addr: u32, width: u32)
+        requires wide { IsWidth width }
+        requires aligned { addr % width ≡ 0 }
+        requires small { length self.old.stores.writers < 2 ^ 32 }
+        requires within { addr + width ≤ length self.old.stores.writers }
+        requires step { done < 2 ^ 32 }
+        requires found { (list : List Dependence) × F.keeps self.old.found list }
+        requires room { self.old.is_full ≡ false }
+        ensures epoch { self.new.epoch ≡ self.old.epoch }
+        ensures stores { self.new.stores ≡ self.old.stores }
+        ensures kept { self.new.is_full ≡ false → IsLoadKept F.keeps self.old self.new pc done addr width }
+    {
+        match self.stores.last_of(addr, width) {
+            Word::Untouched => {}
+            Word::Whole(by) => {
+                if by.is_before(self.epoch) {
+                    self.depend(pc, done, LastStore { byte: addr, by });
+                }
+            }
+            Word::Bytes => self.note_bytes(pc, done, addr, width),
+        }
+    }
+
+    /// The same, by what each of its bytes was stored last.
+    #[inline(never)]
+    fn note_bytes(&mut self, pc: u32, done: u64, addr: u32, width: u32)
+        requires small { length self.old.stores.writers < 2 ^ 32 }
+        requires within { addr + width ≤ length self.old.stores.writers }
+        requires step { done < 2 ^ 32 }
+        requires found { (list : List Dependence) × F.keeps self.old.found list }
+        requires room { self.old.is_full ≡ false }
+        ensures epoch { self.new.epoch ≡ self.old.epoch }
+        ensures stores { self.new.stores ≡ self.old.stores }
+        ensures kept { self.new.is_full ≡ false → IsLoadKept F.keeps self.old self.new pc done addr width }
+    {
+        if let Some(byte) = self.stores.nearest_byte(self.epoch, addr, width) {
+            let by = self.stores.stored_by(byte);
+            self.depend(pc, done, LastStore { byte, by });
+        }
+    }
+
+    /// Notes a load that depends on an earlier epoch, by a byte with this last store.
+    #[inline(always)]
+    fn depend(&mut self, pc: u32, done: u64, last: LastStore)
+        requires earlier { last.by.writer ≤ self.old.epoch }
+        requires some { 0 < last.by.writer }
         requires step { done < 2 ^ 32 }
         requires found { (list : List Dependence) × F.keeps self.old.found list }
         ensures epoch { self.new.epoch ≡ self.old.epoch }
         ensures stores { self.new.stores ≡ self.old.stores }
-        ensures nearest { self.new.nearest ≡ spec.nearer_by self.old.stores.writers self.old.epoch byte self.old.nearest }
+        ensures nearest { self.new.nearest ≡ spec_kept.nearer self.old.nearest (Some (self.old.epoch + 1 - last.by.writer)) }
         ensures later { (list : List Dependence) → IsNearestLater list self.old.nearest self.old.later
-            → IsNearestLater (list ++ spec.dependence_at self.old.stores self.old.epoch pc done byte ∷ []) self.new.nearest self.new.later }
-        ensures found { self.new.is_full ≡ false → (list : List Dependence) → F.keeps self.old.found list → F.keeps self.new.found (list ++ spec.dependence_at self.old.stores self.old.epoch pc done byte ∷ []) }
+            → IsNearestLater (list ++ dependence_by last self.old.epoch pc done ∷ []) self.new.nearest self.new.later }
+        ensures found { self.new.is_full ≡ false → (list : List Dependence) → F.keeps self.old.found list → F.keeps self.new.found (list ++ dependence_by last self.old.epoch pc done ∷ []) }
     {
-        let one = self.stores.dependence(self.epoch, pc, done as u32, byte);
+        let one = last.dependence(self.epoch, pc, done as u32);
         let distance = one.later - one.earlier;
         if is_nearer(self.nearest, distance) {
             self.nearest = Some(distance);
             self.later = one.later;
         }
-        if self.found.add(&one).is_err() {
+        if self.found.add(one).is_err() {
             self.is_full = true;
         }
     }

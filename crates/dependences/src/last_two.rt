@@ -1,6 +1,6 @@
-ghost use Rattle.std.specs.Prelude.{◌≡◌, ℕ, ◌+◌, ◌/◌, ◌%◌, ◌<◌, ◌≤◌, ◌^◌, IfOk, length, slice_index};
-ghost use Rattle.memory_bytes.specs.Bytes.{IsWidth};
+ghost use Rattle.std.specs.Prelude.{◌≡◌, ℕ, ◌/◌, ◌<◌, ◌≤◌, IfOk, length, slice_index, true};
 ghost use Rattle.rv32_image.specs.Image.{IsImage};
+ghost use Rattle.rv32_image.specs.Machine.{is_line_length};
 ghost use Rattle.spec_history.specs.Conflict.{line_number, line_count};
 ghost use Rattle.dependences.specs.KeptLines as spec;
 
@@ -11,6 +11,7 @@ use std::alloc::Global;
 use std::marker::Model;
 
 /// The number of the line of the caches in which a byte lies.
+#[inline(always)]
 pub(crate) fn line_of(image: &Image, addr: u32) -> u32
     requires { addr ≤ image.now.size }
     ensures line { result ≡ line_number image.now addr }
@@ -20,18 +21,19 @@ pub(crate) fn line_of(image: &Image, addr: u32) -> u32
     line_at(image.place(addr), image.machine().line_length)
 }
 
-/// The number of the line of this length in which a place lies.
-#[inline]
+/// The number of the line of this length, that of a machine, in which a place lies.
+#[inline(always)]
 fn line_at(place: u32, length: u32) -> u32
-    requires { 1 ≤ length }
+    requires { is_line_length length ≡ true }
     ensures { result ≡ place / length }
 {
-    // A machine has lines of one of these lengths. By a number that it knows LLVM divides by a shift.
-    match length {
-        16 => place / 16,
-        32 => place / 32,
-        64 => place / 64,
-        _ => place / length,
+    // By a number that it knows LLVM divides by a shift, and chooses of three without a branch.
+    if length == 16 {
+        place / 16
+    } else if length == 32 {
+        place / 32
+    } else {
+        place / 64
     }
 }
 
@@ -63,6 +65,7 @@ impl LastTwo {
     }
 
     /// The last epoch that did so in a line, and 1, this one aside.
+    #[inline(always)]
     pub(crate) fn other_before(&self, epoch: Epoch, line: u32) -> u32
         requires last { line < length self.now.last }
         requires before { line < length self.now.before }
@@ -74,16 +77,6 @@ impl LastTwo {
         } else {
             last
         }
-    }
-
-    /// Notes that this epoch does so in the line of these bytes, which an aligned access has.
-    pub(crate) fn note_line(&mut self, image: &Image, epoch: Epoch, addr: u32, width: u32)
-        requires access { spec.IsAllowed image.now addr width }
-        requires lines { spec.AreLines image.now self.old }
-        ensures { spec.AreLinesNoted image.now self.old self.new epoch addr width }
-    {
-        let line = line_of(image, addr);
-        self.note(epoch, line);
     }
 
     /// The last epoch that did so in this line, and 1.
@@ -103,6 +96,7 @@ impl LastTwo {
     }
 
     /// Notes that this epoch, another than the last one that did so, does so in this line.
+    #[inline(always)]
     pub(crate) fn follow(&mut self, epoch: Epoch, line: u32)
         requires last { line < length self.old.last }
         requires before { line < length self.old.before }
@@ -114,7 +108,8 @@ impl LastTwo {
     }
 
     /// Notes that this epoch does so in this line.
-    fn note(&mut self, epoch: Epoch, line: u32)
+    #[inline(always)]
+    pub(crate) fn note(&mut self, epoch: Epoch, line: u32)
         requires last { line < length self.old.last }
         requires before { line < length self.old.before }
         ensures { spec.IsLineNoted self.old self.new epoch line }

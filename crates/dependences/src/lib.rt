@@ -3,6 +3,7 @@
 
 mod alone;
 mod beside;
+mod byte_stores;
 mod caches;
 mod conflict;
 mod ends;
@@ -18,6 +19,7 @@ mod pairs;
 mod pieces;
 mod stores;
 mod touches;
+mod word_stores;
 
 pub use caches::{CacheConflict, conflict_over_caches};
 pub use conflict::{conflicts_over_bytes, is_near, least_conflict_over_bytes};

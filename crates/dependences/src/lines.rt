@@ -1,10 +1,10 @@
-ghost use Rattle.std.specs.Prelude.{◌≡◌, ℕ, ◌+◌, ◌%◌, ◌<◌, ◌≤◌, ◌^◌, IfOk, true, false, length};
-ghost use Rattle.memory_bytes.specs.Bytes.{IsWidth};
+ghost use Rattle.std.specs.Prelude.{◌≡◌, ℕ, ◌+◌, ◌<◌, IfOk, true, false, length};
 ghost use Rattle.rv32_image.specs.Image.{IsImage};
+ghost use Rattle.spec_history.specs.Conflict.{line_count, line_number};
 ghost use Rattle.dependences.specs.KeptLines as spec;
 
 use crate::epoch::Epoch;
-use crate::last_two::{LastTwo, line_of};
+use crate::last_two::LastTwo;
 use crate::marks::Marks;
 use rv32_exec::NoMemory;
 use rv32_image::Image;
@@ -37,22 +37,26 @@ impl Lines {
         Ok(Lines { own, two })
     }
 
-    /// Whether one of these bytes, which this epoch has not stored, lies in a line in which an epoch from `first` on has.
+    /// Whether this epoch has not stored one of these bytes, which lie in this line, where an epoch from `first` on has stored in the line.
+    #[inline(always)]
     pub(crate) fn meets(
         &self,
-        image: &Image,
+        _image: &Image,
+        line: u32,
         epoch: Epoch,
         first: u32,
         addr: u32,
         width: u32,
     ) -> bool
-        requires access { spec.IsAllowed image.now addr width }
-        requires own { length self.now.own ≡ image.now.size }
-        requires lines { spec.AreLines image.now self.now.two }
-        ensures found { result ≡ true → spec.MeetsLine image.now self.now epoch first addr width }
-        ensures none { result ≡ false → spec.MeetsLine image.now self.now epoch first addr width → ⊥ }
+        requires limits { IsImage _image.now }
+        requires line { line ≡ line_number _image.now addr }
+        requires inside { line < line_count _image.now }
+        requires access { spec.IsAllowed _image.now addr width }
+        requires own { length self.now.own ≡ _image.now.size }
+        requires lines { spec.AreLines _image.now self.now.two }
+        ensures found { result ≡ true → spec.MeetsLine _image.now self.now epoch first addr width }
+        ensures none { result ≡ false → spec.MeetsLine _image.now self.now epoch first addr width → ⊥ }
     {
-        let line = line_of(image, addr);
         if self.two.other_before(epoch, line) <= first {
             return false;
         }
@@ -64,15 +68,18 @@ impl Lines {
         false
     }
 
-    /// Notes that this epoch stores these bytes.
-    pub(crate) fn store(&mut self, image: &Image, epoch: Epoch, addr: u32, width: u32)
-        requires limits { IsImage image.now }
-        requires access { spec.IsAllowed image.now addr width }
-        requires own { length self.old.own ≡ image.now.size }
-        requires lines { spec.AreLines image.now self.old.two }
-        ensures { spec.AreStored image.now self.old self.new epoch addr width }
+    /// Notes that this epoch stores these bytes, which lie in this line.
+    #[inline(always)]
+    pub(crate) fn store(&mut self, _image: &Image, line: u32, epoch: Epoch, addr: u32, width: u32)
+        requires limits { IsImage _image.now }
+        requires line { line ≡ line_number _image.now addr }
+        requires inside { line < line_count _image.now }
+        requires access { spec.IsAllowed _image.now addr width }
+        requires own { length self.old.own ≡ _image.now.size }
+        requires lines { spec.AreLines _image.now self.old.two }
+        ensures { spec.AreStored _image.now self.old self.new epoch addr width }
     {
         self.own.mark(addr, width, epoch.note());
-        self.two.note_line(image, epoch, addr, width);
+        self.two.note(epoch, line);
     }
 }

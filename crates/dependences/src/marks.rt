@@ -22,7 +22,7 @@ impl Model for Marks {
 
     ghost Value = { List ℕ };
 
-    ghost view = { λ m. filled m.numbers.items m.size };
+    ghost view = { λ m. filled 0 m.numbers.items m.size };
 
     ghost invariant = { λ m. HasRoom m.numbers.items m.size (vec_capacity m.numbers) };
 }
@@ -58,33 +58,41 @@ impl Marks {
         ensures long { length self.new ≡ length self.old }
         ensures marked { IsMarked self.old self.new addr width number }
     {
-        reach(&mut self.numbers, (addr + width) as usize);
+        reach(&mut self.numbers, (addr + width) as usize, self.size);
         mark(self.numbers.as_mut_slice(), addr, width, number);
     }
 }
 
-/// Makes numbers up to this place, for which there is room.
+/// How many numbers are made at a time, at least.
+const STEP: usize = 4096;
+
+/// Makes numbers up to this place, of so many for which there is room.
 #[inline(always)]
-fn reach(numbers: &mut Vec<u32>, end: usize)
-    requires { end ≤ vec_capacity numbers.old }
+fn reach(numbers: &mut Vec<u32>, end: usize, size: usize)
+    requires end { end ≤ size }
+    requires room { size ≤ vec_capacity numbers.old }
+    requires within { length numbers.old.items ≤ size }
     ensures there { end ≤ length numbers.new.items }
-    ensures within { (size : ℕ) → end ≤ size → length numbers.old.items ≤ size → length numbers.new.items ≤ size }
+    ensures within { length numbers.new.items ≤ size }
     ensures same { (a : ℕ) → slice_index numbers.new.items a ≡ slice_index numbers.old.items a }
     ensures capacity { vec_capacity numbers.old ≤ vec_capacity numbers.new }
 {
     if end > numbers.len() {
-        lengthen(numbers, end);
+        lengthen(numbers, end, size);
     }
 }
 
-/// Makes numbers up to this place, which is past them.
+/// Makes numbers up to this place, which is past them, and some more.
 #[inline(never)]
-fn lengthen(numbers: &mut Vec<u32>, end: usize)
+fn lengthen(numbers: &mut Vec<u32>, end: usize, size: usize)
     requires past { length numbers.old.items ≤ end }
-    requires room { end ≤ vec_capacity numbers.old }
-    ensures there { length numbers.new.items ≡ end }
+    requires end { end ≤ size }
+    requires room { size ≤ vec_capacity numbers.old }
+    ensures there { end ≤ length numbers.new.items }
+    ensures within { length numbers.new.items ≤ size }
     ensures same { (a : ℕ) → slice_index numbers.new.items a ≡ slice_index numbers.old.items a }
     ensures capacity { vec_capacity numbers.old ≤ vec_capacity numbers.new }
 {
-    numbers.resize(end, 0).unwrap();
+    let more = size.min(end.saturating_add(STEP));
+    numbers.resize(more, 0).unwrap();
 }

@@ -1,5 +1,4 @@
 ghost use Rattle.std.specs.Prelude.{◌≡◌, ℕ, ◌+◌, ◌<◌, ◌≤◌, ◌^◌, IfOk, true, false, length, slice_index};
-ghost use Rattle.rv32_image.specs.Image.{IsImage};
 ghost use Rattle.rv32_exec.specs.declared.sequential.End.TheVariants.{Done};
 ghost use Rattle.rv32_exec.specs.Sequential.{first_epochs};
 ghost use Rattle.dependences.specs.Conflict.{IsInOrder};
@@ -153,7 +152,23 @@ pub(crate) fn nearer(first: Option<u32>, second: Option<u32>) -> Option<u32>
 }
 
 /// Notes who wrote the bytes of a store.
+#[inline(always)]
 pub(crate) fn mark(writers: &mut [u32], addr: u32, width: u32, writer: u32)
+    requires small { length writers.old < 2 ^ 32 }
+    requires within { addr + width ≤ length writers.old }
+    ensures long { length writers.new ≡ length writers.old }
+    ensures marked { spec.IsMarked writers.old writers.new addr width writer }
+{
+    // With a width that it knows LLVM writes a word's numbers at once.
+    match width {
+        4 => mark_each(writers, addr, 4, writer),
+        _ => mark_each(writers, addr, width, writer),
+    }
+}
+
+/// The same, byte by byte.
+#[inline(always)]
+fn mark_each(writers: &mut [u32], addr: u32, width: u32, writer: u32)
     requires small { length writers.old < 2 ^ 32 }
     requires within { addr + width ≤ length writers.old }
     ensures long { length writers.new ≡ length writers.old }

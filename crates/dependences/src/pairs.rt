@@ -29,8 +29,8 @@ pub struct PairSum {
 
 impl PairSum {
     /// Of one alone.
-    fn of(one: &Dependence) -> PairSum
-        ensures { result ≡ spec.sum_of_one one.now }
+    fn of(one: Dependence) -> PairSum
+        ensures { result ≡ spec.sum_of_one one }
     {
         let distance = one.later.saturating_sub(one.earlier);
         PairSum {
@@ -39,15 +39,15 @@ impl PairSum {
             most: distance,
             lowest: one.byte,
             highest: one.byte,
-            first: *one,
+            first: one,
         }
     }
 
     /// Counts one more.
     #[inline]
-    fn count(&mut self, one: &Dependence)
+    fn count(&mut self, one: Dependence)
         requires { self.old.times + 1 < 2 ^ 64 }
-        ensures { self.new ≡ spec.sum_more self.old one.now }
+        ensures { self.new ≡ spec.sum_more self.old one }
     {
         let distance = one.later.saturating_sub(one.earlier);
         self.times += 1;
@@ -110,7 +110,7 @@ impl Found for PairSums {
     ghost keeps = { ArePairSums };
 
     #[inline]
-    fn add(&mut self, one: &Dependence) -> Result<(), NoMemory> {
+    fn add(&mut self, one: Dependence) -> Result<(), NoMemory> {
         let Some(count) = self.count.checked_add(1) else {
             return Err(NoMemory);
         };
@@ -135,27 +135,29 @@ impl PairSums {
 
     /// Adds one to the sum of its pair.
     #[inline]
-    fn keep(&mut self, one: &Dependence) -> Result<(), NoMemory>
+    fn keep(&mut self, one: Dependence) -> Result<(), NoMemory>
         requires home { kept.AreAtHome self.old.ready.items }
-        requires below { (s : PairSum) → kept.kept_sum self.old.ready.items self.old.sums one.now.store_pc one.now.load_pc ≡ Some s → s.times + 1 < 2 ^ 64 }
+        requires below { (s : PairSum) → kept.kept_sum self.old.ready.items self.old.sums one.store_pc one.load_pc ≡ Some s → s.times + 1 < 2 ^ 64 }
         ensures home { OnOk result (kept.AreAtHome self.new.ready.items) }
-        ensures added { OnOk result (kept.IsAdded self.old self.new one.now) }
+        ensures added { OnOk result (kept.IsAdded self.old self.new one) }
     {
         if self.count_ready(one) {
             return Ok(());
         }
-        self.make_ready(one)
+        // A copy, so that LLVM keeps the dependence in registers where its pair is at hand.
+        let kept = Dependence { ..one };
+        self.make_ready(kept)
     }
 
     /// Adds one to the sum of its pair, where this is at hand. Answers whether it is.
     #[inline]
-    fn count_ready(&mut self, one: &Dependence) -> bool
+    fn count_ready(&mut self, one: Dependence) -> bool
         requires home { kept.AreAtHome self.old.ready.items }
-        requires below { (s : PairSum) → kept.kept_sum self.old.ready.items self.old.sums one.now.store_pc one.now.load_pc ≡ Some s → s.times + 1 < 2 ^ 64 }
+        requires below { (s : PairSum) → kept.kept_sum self.old.ready.items self.old.sums one.store_pc one.load_pc ≡ Some s → s.times + 1 < 2 ^ 64 }
         ensures home { kept.AreAtHome self.new.ready.items }
-        ensures added { result ≡ true → kept.IsAdded self.old self.new one.now }
+        ensures added { result ≡ true → kept.IsAdded self.old self.new one }
         ensures same { result ≡ false → (self.new.ready.items ≡ self.old.ready.items) × (self.new.sums ≡ self.old.sums) }
-        ensures none { result ≡ false → kept.at_hand (slice_index_or self.old.ready.items (kept.slot one.now.load_pc) None) one.now.store_pc one.now.load_pc ≡ None }
+        ensures none { result ≡ false → kept.at_hand (slice_index_or self.old.ready.items (kept.slot one.load_pc) None) one.store_pc one.load_pc ≡ None }
     {
         match &mut self.ready[slot_of(one.load_pc)] {
             Some(ready) => {
@@ -174,12 +176,12 @@ impl PairSums {
 
     /// Takes the pair of a dependence to hand, in place of the one that was there, and adds the dependence to its sum.
     #[inline(never)]
-    fn make_ready(&mut self, one: &Dependence) -> Result<(), NoMemory>
+    fn make_ready(&mut self, one: Dependence) -> Result<(), NoMemory>
         requires home { kept.AreAtHome self.old.ready.items }
-        requires below { (s : PairSum) → kept.kept_sum self.old.ready.items self.old.sums one.now.store_pc one.now.load_pc ≡ Some s → s.times + 1 < 2 ^ 64 }
-        requires none { kept.at_hand (slice_index_or self.old.ready.items (kept.slot one.now.load_pc) None) one.now.store_pc one.now.load_pc ≡ None }
+        requires below { (s : PairSum) → kept.kept_sum self.old.ready.items self.old.sums one.store_pc one.load_pc ≡ Some s → s.times + 1 < 2 ^ 64 }
+        requires none { kept.at_hand (slice_index_or self.old.ready.items (kept.slot one.load_pc) None) one.store_pc one.load_pc ≡ None }
         ensures home { OnOk result (kept.AreAtHome self.new.ready.items) }
-        ensures added { OnOk result (kept.IsAdded self.old self.new one.now) }
+        ensures added { OnOk result (kept.IsAdded self.old self.new one) }
     {
         let (store, load) = (one.store_pc, one.load_pc);
         let slot = slot_of(load);
@@ -190,9 +192,9 @@ impl PairSums {
     }
 
     /// The sum that the map has of the pair of a dependence, with this one.
-    fn sum_with(&self, one: &Dependence) -> PairSum
-        requires { (s : PairSum) → get spec.by_pcs self.now.sums (one.now.store_pc, one.now.load_pc) ≡ Some s → s.times + 1 < 2 ^ 64 }
-        ensures { spec.sum_with (get spec.by_pcs self.now.sums (one.now.store_pc, one.now.load_pc)) one.now ≡ Some result }
+    fn sum_with(&self, one: Dependence) -> PairSum
+        requires { (s : PairSum) → get spec.by_pcs self.now.sums (one.store_pc, one.load_pc) ≡ Some s → s.times + 1 < 2 ^ 64 }
+        ensures { spec.sum_with (get spec.by_pcs self.now.sums (one.store_pc, one.load_pc)) one ≡ Some result }
     {
         match self.sums.get(&(one.store_pc, one.load_pc)) {
             Some(before) => {

@@ -1,6 +1,5 @@
 ghost use Rattle.std.specs.Prelude.{◌≡◌, ℕ, ◌+◌, ◌-◌, ◌<◌, ◌≤◌, ◌^◌, IfOk, length, slice_index};
-ghost use Rattle.rv32_image.specs.Image.{IsImage};
-ghost use Rattle.spec_history.specs.Conflict.{line_number};
+ghost use Rattle.spec_history.specs.Conflict.{line_count};
 ghost use Rattle.dependences.specs.KeptTouches as spec;
 
 use crate::beside::first_beside;
@@ -47,32 +46,33 @@ impl Touches {
         })
     }
 
-    /// Notes that this epoch touches these bytes.
-    pub(crate) fn touch(&mut self, image: &Image, cores: u32, epoch: u32, addr: u32)
+    /// Notes that this epoch touches this line.
+    #[inline(always)]
+    pub(crate) fn touch(&mut self, image: &Image, cores: u32, epoch: u32, line: u32)
         requires epoch { epoch < image.now.epochs }
-        requires within { addr < image.now.size }
+        requires within { line < line_count image.now }
         requires long { spec.AreTouches image.now self.old }
-        requires last { slice_index self.old.two.last (line_number image.now addr) ≤ epoch + 1 }
-        ensures { self.new ≡ spec.after_touch self.old image.now.machine.buffer_lines cores epoch (line_number image.now addr) }
+        requires last { slice_index self.old.two.last line ≤ epoch + 1 }
+        ensures { self.new ≡ spec.after_touch self.old image.now.machine.buffer_lines cores epoch line }
     {
         let limit = image.machine().buffer_lines;
-        let line = line_of(image, addr);
         self.touch_in(limit, cores, epoch, line);
     }
 
-    /// Notes that this epoch stores in the line of this byte, which it touches.
-    pub(crate) fn store(&mut self, image: &Image, cores: u32, epoch: u32, addr: u32)
+    /// Notes that this epoch stores in this line, which it touches.
+    #[inline(always)]
+    pub(crate) fn store(&mut self, image: &Image, cores: u32, epoch: u32, line: u32)
         requires epoch { epoch < image.now.epochs }
-        requires within { addr < image.now.size }
+        requires within { line < line_count image.now }
         requires long { spec.AreTouches image.now self.old }
-        ensures { self.new ≡ spec.after_store self.old image.now.machine.buffer_lines cores epoch (line_number image.now addr) }
+        ensures { self.new ≡ spec.after_store self.old image.now.machine.buffer_lines cores epoch line }
     {
         let limit = image.machine().buffer_lines;
-        let line = line_of(image, addr);
         self.store_in(limit, cores, epoch, line);
     }
 
     /// Notes that this epoch touches this line: where the last one before it stores in the line and is near, the line is shared.
+    #[inline(always)]
     fn touch_in(&mut self, limit: u32, cores: u32, epoch: u32, line: u32)
         requires inside { spec.IsInside self.old epoch line }
         requires last { slice_index self.old.two.last line ≤ epoch + 1 }
@@ -102,6 +102,7 @@ impl Touches {
     }
 
     /// Notes that this epoch stores in this line: where one beside it has touched the line before, it is shared.
+    #[inline(always)]
     fn store_in(&mut self, limit: u32, cores: u32, epoch: u32, line: u32)
         requires inside { spec.IsInside self.old epoch line }
         ensures { self.new ≡ spec.after_store self.old limit cores epoch line }

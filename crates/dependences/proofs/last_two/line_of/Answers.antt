@@ -13,3 +13,6 @@ returns-clause-inside c below =
     let image = c.args.image.now in
     subst (λ n. n < line_count image) (sym (c.line_at.ensures ∙ line_is image c.machine.result c.args.addr c.place.result c.place.ensures.place c.machine.ensures.machine))
     (number_counted image c.args.addr c.machine.ensures.limits.machine_allowed below)
+
+pub line_at-requires : goal.line_at-requires
+line_at-requires c = rw c.machine.ensures.machine c.machine.ensures.limits.machine_allowed.is.line_length

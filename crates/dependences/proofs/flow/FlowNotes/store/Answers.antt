@@ -11,6 +11,10 @@ overflow_cast-done g c =
     let limits = c.requires.4.limits in
     let done = c.requires.3.done_is in omega (arith, room, limits.limit_most, done)
 
+pub mark-requires-clause-aligned : goal.mark-requires-clause-aligned
+mark-requires-clause-aligned g c =
+    let it : IsStore c.args._image.now c.requires.0 c.args.addr c.args.width c.requires.2 = stop_of_effect c.args._image.now c.requires.0 _ c.requires.3.stops in it.access.aligned
+
 pub mark-requires-clause-within : goal.mark-requires-clause-within
 mark-requires-clause-within g c =
     let it : IsStore c.args._image.now c.requires.0 c.args.addr c.args.width c.requires.2 = stop_of_effect c.args._image.now c.requires.0 _ c.requires.3.stops in

@@ -5,13 +5,13 @@ use Rattle.dependences.proofs.lines.Lines.meets.Goals as goal
 pub returns-then-other_before-first-clause-none : goal.returns-then-other_before-first-clause-none
 returns-then-other_before-first-clause-none c none =
     rw (← c.self.view_is)
-    (λ m. let written = written_word c.args.image.now c.line_of-line.ensures.limits c.args.addr c.args.width c.line_of-line.result c.requires.access.wide c.requires.access.aligned c.line_of-line.ensures.line
+    (λ m. let written = written_word c.args._image.now c.requires.limits c.args.addr c.args.width c.args.line c.requires.access.wide c.requires.access.aligned c.requires.line
     _ c.args.epoch c.args.first m in omega (arith, written, c.other_before.ensures, c.if-other_before-first.true))
 
 pub returns-then-at-note-clause-found : goal.returns-then-at-note-clause-found
 returns-then-at-note-clause-found c found =
     rw (← c.self.view_is)
-    (meets_word c.args.image.now c.line_of-line.ensures.limits c.args.addr c.args.width c.line_of-line.result c.requires.access.wide c.requires.access.aligned c.line_of-line.ensures.line
+    (meets_word c.args._image.now c.requires.limits c.args.addr c.args.width c.args.line c.requires.access.wide c.requires.access.aligned c.requires.line
     _ c.args.epoch c.args.first c.loop-i.i c.loop-i-test.true
     (λ same. c.if-at-note.true (c.at.ensures ∙ (same ∙ sym c.note.ensures.note)))
     (omega (arith, c.other_before.ensures, c.if-other_before-first.false)))

@@ -10,6 +10,6 @@ returns-clause-marked c =
     let old = c.self.inside.numbers.items in
     let size = c.self.inside.size in
     rw (← c.self.view_is)
-    (subst (λ (l : List ℕ). IsMarked (filled old size) (filled l size) c.args.addr c.args.width c.args.number)
+    (subst (λ (l : List ℕ). IsMarked (filled 0 old size) (filled 0 l size) c.args.addr c.args.width c.args.number)
     (sym (with_items_is c.reach.new.numbers c.mark.new.writers (c.mark.ensures.long ∙ c.as_mut_slice.ensures.len)))
     (filled_marked old c.reach.new.numbers.items c.mark.new.writers size c.args.addr c.args.width c.args.number c.reach.ensures.same (rw c.as_mut_slice.ensures.value at c.mark.ensures.marked)))

@@ -5,7 +5,7 @@ use Rattle.dependences.proofs.pairs.PairSums.count_ready.Goals as goal
 
 pub count-requires : goal.count-requires
 count-requires c =
-    let x = c.args.one.now in
+    let x = c.args.one in
     let ready = c.args.self.now.ready.items in
     let at = looked_at ready c.slot_of.result x.load_pc c.index_mut.result.now c.requires.home c.slot_of.ensures.slot c.slot_of.ensures.few c.index_mut.ensures.value ∙ c.in-Some.is in
     c.requires.below c.in-Some.ready.sum
@@ -17,7 +17,7 @@ returns-else-ready-one-2-clause-home c =
 
 pub returns-else-ready-one-2-clause-added : goal.returns-else-ready-one-2-clause-added
 returns-else-ready-one-2-clause-added c added store load =
-    let x = c.args.one.now in
+    let x = c.args.one in
     let ready = c.args.self.now.ready.items in
     let at = looked_at ready c.slot_of.result x.load_pc c.index_mut.result.now c.requires.home c.slot_of.ensures.slot c.slot_of.ensures.few c.index_mut.ensures.value ∙ c.in-Some.is in
     rw (c.count.ensures, c.if-ready-one.false, c.if-ready-one-2.false, c.slot_of.ensures.slot)
@@ -25,7 +25,7 @@ returns-else-ready-one-2-clause-added c added store load =
 
 pub returns-then-ready-one-2-clause-none : goal.returns-then-ready-one-2-clause-none
 returns-then-ready-one-2-clause-none c none =
-    let x = c.args.one.now in
+    let x = c.args.one in
     let ready = c.args.self.now.ready.items in
     not_ready ready x (Some c.in-Some.ready)
     (looked_at ready c.slot_of.result x.load_pc c.index_mut.result.now c.requires.home c.slot_of.ensures.slot c.slot_of.ensures.few c.index_mut.ensures.value ∙ c.in-Some.is)
@@ -33,7 +33,7 @@ returns-then-ready-one-2-clause-none c none =
 
 pub returns-then-ready-one-clause-none : goal.returns-then-ready-one-clause-none
 returns-then-ready-one-clause-none c none =
-    let x = c.args.one.now in
+    let x = c.args.one in
     let ready = c.args.self.now.ready.items in
     not_ready ready x (Some c.in-Some.ready)
     (looked_at ready c.slot_of.result x.load_pc c.index_mut.result.now c.requires.home c.slot_of.ensures.slot c.slot_of.ensures.few c.index_mut.ensures.value ∙ c.in-Some.is)
@@ -41,7 +41,7 @@ returns-then-ready-one-clause-none c none =
 
 pub returns-in-None-clause-none : goal.returns-in-None-clause-none
 returns-in-None-clause-none c none =
-    let x = c.args.one.now in
+    let x = c.args.one in
     let ready = c.args.self.now.ready.items in
     not_ready ready x None
     (looked_at ready c.slot_of.result x.load_pc c.index_mut.result.now c.requires.home c.slot_of.ensures.slot c.slot_of.ensures.few c.index_mut.ensures.value ∙ c.in-None.is)

@@ -3,7 +3,7 @@ use Rattle.dependences.proofs.pairs.PairSums.make_ready.Goals as goal
 
 pub returns-clause-added : goal.returns-clause-added
 returns-clause-added c store load =
-    let x = c.args.one.now in
+    let x = c.args.one in
     let ready = c.args.self.now.ready.items in
     rw (c.in_ok-put_back.ensures.ready, c.slot_of-slot.ensures.slot)
     (made_ready ready c.args.self.now.sums c.put_back.new.self.sums x c.sum_with-sum.result c.requires.home c.requires.none c.sum_with-sum.ensures

@@ -1,18 +1,12 @@
-use Rattle.std.proofs.Common.{◌≡◌, ℕ, List, length, replicate, slice_index, refl, ap, ◌∙◌, inl, inr, arith}
-use Rattle.std.proofs.lemmas.Bool.{cases_lt}
-use Rattle.std.proofs.lemmas.List.{get_or-replicate, get_or_past, length-replicate}
+use Rattle.std.proofs.Common.{◌≡◌, ℕ, List, length, replicate, slice_index, refl, ap, ◌∙◌}
+use Rattle.std.proofs.lemmas.List.{length-replicate}
 use Rattle.spec_history.specs.Conflict.{line_number}
 use Rattle.dependences.proofs.Buffering.{kept_first}
+use Rattle.dependences.proofs.Marking.{none_at}
 use Rattle.dependences.proofs.touches.Touches.none.Goals as goal
 
-all_zero : (n i : ℕ) → slice_index (replicate n 0) i ≡ 0
-all_zero n i = elim (cases_lt i n) [
-  | inl within ↦ get_or-replicate n i 0 0 within
-  | inr past ↦ get_or_past (replicate n 0) i 0 (omega (arith, past, length-replicate {A = ℕ} n 0))
-]
-
 zeros : (xs : List ℕ) (n : ℕ) → xs ≡ replicate n 0 → (i : ℕ) → slice_index xs i ≡ 0
-zeros xs n is i = ap (λ (s : List ℕ). slice_index s i) is ∙ all_zero n i
+zeros xs n is i = ap (λ (s : List ℕ). slice_index s i) is ∙ none_at n i 0
 
 pub returns : goal.returns
 returns c = λ cores.

@@ -1,5 +1,5 @@
 use Rattle.dependences.specs.Kept.{IsMarked}
-use Rattle.dependences.proofs.nearest.mark.Given as goal
+use Rattle.dependences.proofs.nearest.mark_each.Given as goal
 
 -- the bytes so far are marked
 abbrev pub invariant-loop-i : goal.invariant-loop-i
