@@ -19,10 +19,9 @@ use Rattle.turn_costs.specs.Prices.{Prices}
 use Rattle.even_speed.specs.Even.{at_first}
 use Rattle.even_speed.specs.Fixed.{RunIsFixed}
 use Rattle.all_schedules.specs.Drawn.{DrivesDrawn, drawn, most_turns}
-use Rattle.all_schedules.specs.Fixed.{DrawnHistoryIsFixed, EvenHistoryIsFixed, HistoryIsFixed, TextIsFixed}
+use Rattle.all_schedules.specs.Fixed.{DrawnHistoryIsFixed, EvenHistoryIsFixed, HistoryIsFixed}
 use Rattle.homefree.specs.Retraced.{IsNew, IsRetraced, book_over, turns_of}
-use Rattle.all_schedules.specs.Traced.{IsMadeAgain, Parts}
-use Rattle.turn_steps.specs.Fixed.{StepsAreFixed}
+use Rattle.all_schedules.specs.MadeAgain.{IsMadeAgain, Parts}
 
 -- a run ends, or goes to the most turns
 is_ended : (result : Result (Option End) TurnFault) → (result ≡ Ok None) ⊎ (result ≢ Ok None)
@@ -33,7 +32,7 @@ is_ended (Err fault) = inr (λ is. absurd cc)
 module _ {S : Type 0} (starts : LoadedImage → ℕ → S → Type 0) (makes : S → Call → S → Type 0) (alike : S → S → Type 0) (view : S → StoreView) (waits : S → Waits)
     (same : (image : LoadedImage) (cores : ℕ) (s t : S) → starts image cores s → starts image cores t → alike s t) where
   -- two empty histories of a loop
-  new_twins : (l : Loop) (b c : BookView S) → IsNew starts view l b → IsNew starts view l c → AreTwinDrivers alike (driver b no_counts) (driver c no_counts)
+  pub new_twins : (l : Loop) (b c : BookView S) → IsNew starts view l b → IsNew starts view l c → AreTwinDrivers alike (driver b no_counts) (driver c no_counts)
   new_twins l b c one two = record {
     books = record {
       image = ap (λ (x : Loop). x.image) (two.loop ∙ sym one.loop);
@@ -51,12 +50,6 @@ module _ {S : Type 0} (starts : LoadedImage → ℕ → S → Type 0) (makes : S
   history_fixed law l schedule result result' history history' fed fed' one two =
       let run = law (λ _. None) (driver one.first no_counts) one.last (driver two.first no_counts) two.last schedule result result' (new_twins l one.first two.first one.is_new two.is_new) one.driven two.driven fed fed' in
       record { result_is = run.result_is; history_is = sym two.history_is ∙ (run.twins.books.history ∙ one.history_is); twins = run.twins }
-
-  pub text_fixed : (changes : ℕ → S → S → List ℕ) → StepsAreFixed makes alike view waits changes → TextIsFixed starts makes view waits changes
-  text_fixed changes law l schedule history history' text text' one two =
-      let run = law 0 (λ _. None) (driver one.first no_counts) one.last (driver two.first no_counts) two.last schedule one.end two.end text text' (new_twins l one.first two.first one.is_new two.is_new)
-      one.stepped two.stepped in
-      (sym two.history_is ∙ (run.twins.books.history ∙ one.history_is), run.text_is)
 
   pub even_history_fixed : (prices : S → Prices) (keeps : S → Type 0) → RunIsFixed makes alike view waits prices keeps → EvenHistoryIsFixed starts makes view waits prices keeps
   even_history_fixed prices keeps law holding queues costs l schedule schedule' result result' history history' done done' one two =

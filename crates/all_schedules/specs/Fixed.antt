@@ -20,7 +20,6 @@ use Rattle.turn_costs.specs.Prices.{Prices}
 use Rattle.all_schedules.specs.Drawn.{MakesDrawn}
 use Rattle.all_schedules.specs.Evenly.{MakesEvenly}
 use Rattle.all_schedules.specs.Made.{Makes}
-use Rattle.all_schedules.specs.Told.{Tells}
 
 -- two runs come to the same and make the same history, and their stores hold the same at the end
 pub record IsOneHistory {S : Type 0} (alike : S → S → Type 0) (result result' : Result (Option End) TurnFault) (history history' : List Entry) (last last' : Driver S) : Type 0 where
@@ -34,12 +33,6 @@ HistoryIsFixed starts makes alike view waits =
     (l : Loop) (schedule : List ℕ) (result result' : Result (Option End) TurnFault) (history history' : List Entry) → result ≢ Err NoMemory → result' ≢ Err NoMemory
     → (one : Makes starts makes view waits l schedule result history) → (two : Makes starts makes view waits l schedule result' history')
     → IsOneHistory alike result result' history history' one.last two.last
-
--- and the text of each of them is one, with all that the turn changed of the store
-abbrev pub TextIsFixed : {S : Type 0} → (LoadedImage → ℕ → S → Type 0) → (S → Call → S → Type 0) → (S → StoreView) → (S → Waits) → (ℕ → S → S → List ℕ) → Type 0
-TextIsFixed starts makes view waits changes =
-    (l : Loop) (schedule : List ℕ) (history history' : List Entry) (text text' : List ℕ) → Tells starts makes view waits changes l schedule history text
-    → Tells starts makes view waits changes l schedule history' text' → (history' ≡ history) × (text' ≡ text)
 
 -- ---- runs whose schedules aren't given
 

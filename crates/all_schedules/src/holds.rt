@@ -11,17 +11,6 @@ use even_speed::{Grain, Holds};
 use rv32_exec::NoMemory;
 use rv32_image::Image;
 use std::alloc::{AllocError, Global};
-use trace_commands::Store;
-
-/// The pieces of memory that tell over a store whether a load reads what another epoch stores.
-pub fn pieces_of(store: Store) -> Pieces
-    ensures { result ≡ spec.pieces_of store }
-{
-    match store {
-        Store::Caches(_) => Pieces::Lines,
-        Store::Plain => Pieces::Bytes,
-    }
-}
 
 /// The loads at these addresses of code wait, until their epoch is the homefree one.
 ///

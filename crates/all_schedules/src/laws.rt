@@ -1,13 +1,12 @@
 //! The laws of histories: the functions do nothing of their own, and their contracts are the laws.
 ghost use Rattle.std.specs.Prelude.{ℕ};
 ghost use Rattle.homefree.specs.LockView.{loop_of};
-ghost use Rattle.all_schedules.specs.Fixed.{DrawnHistoryIsFixed, EvenHistoryIsFixed, HistoryIsFixed, TextIsFixed};
-ghost use Rattle.all_schedules.specs.Traced.{IsMadeAgain, Parts};
+ghost use Rattle.all_schedules.specs.Fixed.{DrawnHistoryIsFixed, EvenHistoryIsFixed, HistoryIsFixed};
+ghost use Rattle.all_schedules.specs.MadeAgain.{IsMadeAgain, Parts};
 
 use even_speed::run_is_fixed;
 use homefree::{Book, drive_is_fixed};
 use turn_costs::PricedStore;
-use turn_steps::{ShownStore, steps_are_fixed};
 use violations::EpochStore;
 
 /// The turns of a schedule over a fresh store come to the same each time, make the same history, and leave stores that hold the same,
@@ -28,14 +27,6 @@ pub fn trace_is_made_again<S: EpochStore>(book: &Book<S>)
     history_is_fixed::<S>();
     book.look();
     book.look_back();
-}
-
-/// What `replay steps` tells of each turn of a schedule over a fresh store, with all that it changed of the store, is the same each time.
-pub fn text_is_fixed<S: ShownStore>()
-    ensures { TextIsFixed S.starts S.makes S.view S.waits S.changes }
-{
-    S::calls_are_fixed();
-    steps_are_fixed::<S>();
 }
 
 /// The run at even speed over a fresh store, on the same terms, comes to the same each time, takes the same turns, and makes the same history, where it

@@ -5,7 +5,7 @@ use Rattle.shown_conflicts.specs.declared.shown.InOrder.{InOrder}
 use Rattle.shown_conflicts.specs.Ran.{IsRun}
 use Rattle.trace_commands.specs.declared.store.Store.{Store}
 use Rattle.trace_commands.specs.declared.store.Store.TheVariants.{Caches, Plain}
-use Rattle.all_schedules.specs.Stores.{on_store}
+use Rattle.replay_command.specs.Stores.{on_store}
 use Rattle.depends.specs.Lines.{IsRunOn}
 
 pub ran_on : (image image' : LoadedImage) (store : Store) (ran : InOrder) → image' ≡ on_store store image → IsRun image ran → IsRunOn image' store ran

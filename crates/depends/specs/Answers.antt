@@ -10,7 +10,7 @@ use Rattle.trace_commands.specs.declared.outcome.CommandStop.TheVariants.{Write,
 use Rattle.trace_commands.specs.Outcome.{AppendsPrefix, Conclusion, IsRefusal}
 use Rattle.trace_commands.specs.Program.{Stream}
 use Rattle.depends.specs.Lines.{AreLines}
-use Rattle.all_schedules.specs.Stores.{HasRefused, RunsOnAll}
+use Rattle.replay_command.specs.Stores.{HasRefused, RunsOnAll}
 
 -- ---- of an image
 

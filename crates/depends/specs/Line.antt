@@ -6,7 +6,7 @@ use Rattle.trace_text.specs.Printing.{hex_word}
 use Rattle.violations.specs.View.{StoreView, Waits}
 use Rattle.violations.specs.Calls.{Call}
 use Rattle.all_schedules.specs.Made.{loop_on}
-use Rattle.all_schedules.specs.SurveyText.{turns_line}
+use Rattle.replay_command.specs.SurveyText.{turns_line}
 use Rattle.depends.specs.declared.least.Found.{Found}
 use Rattle.depends.specs.declared.least.Grain.{Grain}
 use Rattle.depends.specs.declared.line.Line.{Line}

@@ -19,7 +19,7 @@ use Rattle.depends.specs.declared.line.Line.{Line}
 use Rattle.depends.specs.Line.{IsLine, line_text}
 use Rattle.depends.specs.Plain.{IsPlainLine}
 use Rattle.depends.specs.Rows.{AreRowsOf}
-use Rattle.all_schedules.specs.Stores.{on_store}
+use Rattle.replay_command.specs.Stores.{on_store}
 use Rattle.depends.specs.Text.{row_text}
 
 -- a line for each pair of instructions that some of these dependences join, heaviest first

@@ -6,7 +6,8 @@ ghost use Rattle.rv32_image.specs.Reading.{ForText};
 ghost use Rattle.depends.specs.Answers as spec;
 
 use crate::lines::print_lines;
-use all_schedules::{CoreCount, Room, StoreWords, check_stores};
+use all_schedules::Room;
+use replay_command::{CoreCount, StoreWords, check_stores};
 use rv32_image::{Image, read_image};
 use std::alloc::Global;
 use std::convert::AsStr;

@@ -8,7 +8,8 @@ use crate::ahead::run_ahead;
 use crate::least::{Grain, least_by_halves};
 use crate::shown::{Met, Shown, show};
 use crate::text::{push_address, push_named, push_word};
-use all_schedules::{LoopOn, push_turns};
+use all_schedules::LoopOn;
+use replay_command::push_turns;
 use spec_bus::CachedBus;
 use std::alloc::{AllocError, Global};
 

@@ -1,7 +1,7 @@
 //! All lines.
 ghost use Rattle.std.specs.Prelude.{◌≡◌, IfOk, OnOk, List, map};
 ghost use Rattle.trace_commands.specs.Stores.{store_named};
-ghost use Rattle.all_schedules.specs.Stores.{RunsOn, RunsOnAll};
+ghost use Rattle.replay_command.specs.Stores.{RunsOn, RunsOnAll};
 ghost use Rattle.shown_conflicts.specs.Ran.{IsRun};
 ghost use Rattle.dependences.specs.declared.flow.Dependence.{Dependence};
 ghost use Rattle.dependences.specs.Summed.{AreSumsOf};
@@ -11,8 +11,9 @@ use crate::line::{Line, line_over_caches, push_line};
 use crate::plain::line_over_plain;
 use crate::rows::rows_of;
 use crate::text::push_rows;
-use all_schedules::{CoreCount, LoopOn, Room, store_on};
+use all_schedules::{LoopOn, Room};
 use dependences::{PairSum, shown_in_order};
+use replay_command::{CoreCount, store_on};
 use rv32_exec::Image;
 use shown_conflicts::InOrder;
 use std::alloc::{AllocError, Global};

@@ -8,7 +8,8 @@ ghost use Rattle.trace_commands.specs.Stores.{or_both};
 ghost use Rattle.depends.specs.Work as spec;
 
 use crate::answer::do_depends;
-use all_schedules::{CoreCount, Room, StoreWords};
+use all_schedules::Room;
+use replay_command::{CoreCount, StoreWords};
 use std::alloc::Global;
 use std::convert::AsStr;
 use std::io::{Read, Write};

@@ -2,7 +2,7 @@
 use Rattle.std.proofs.Common.{◌≡◌, ℕ, Bool, List, take, drop, map, Option, Some, None, false, sym, ap, refl, ◌∙◌}
 use Rattle.std.specs.List.{drop-map, take-map}
 use Rattle.trace_commands.specs.Stores.{stores_asked_in}
-use Rattle.all_schedules.specs.Addresses.{wait_place, waits_in}
+use Rattle.replay_command.specs.Addresses.{wait_place, waits_in}
 use Rattle.gain.specs.Asked.{asked_before_limits, asked_of, asked_where, asks_held, without_held}
 
 asked_by : (limits : Bool) (words : List (List ℕ)) → asked_before_limits limits words ≡ asked_of limits (take (wait_place words) words) (drop (wait_place words) words)

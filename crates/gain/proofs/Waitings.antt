@@ -2,7 +2,7 @@
 use Rattle.std.proofs.Common.{ℕ, List, Result, Ok, Err, OnOk}
 use Rattle.rv32_image.specs.Image.{LoadedImage}
 use Rattle.trace_commands.specs.declared.store.Store.{Store}
-use Rattle.all_schedules.specs.Holding.{pieces_of}
+use Rattle.replay_command.specs.Stores.{pieces_of}
 use Rattle.gain.specs.declared.gains.Study.{Study}
 use Rattle.gain.specs.declared.lines.Waiting.{Waiting}
 use Rattle.gain.specs.Gains.{AddEvensOf, AddLinesOf, AddWaiting, AreWaiting}

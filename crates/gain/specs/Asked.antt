@@ -6,8 +6,8 @@ use Rattle.std.specs.Prelude.{ℕ, ◌-◌, Bool, false, List, [], ◌∷◌, le
 use Rattle.std.specs.Str.{bytes_eq}
 use Rattle.trace_commands.specs.Stores.{StoresAsked, stores_asked_in}
 use Rattle.turn_costs.specs.declared.costs.Costs.{Costs}
-use Rattle.all_schedules.specs.Addresses.{wait_place, waits_in}
-use Rattle.all_schedules.specs.CostWords.{CostsBehind, costs_behind}
+use Rattle.replay_command.specs.Addresses.{wait_place, waits_in}
+use Rattle.replay_command.specs.CostWords.{CostsBehind, costs_behind}
 
 -- so many cores, stores by the words that name them, whether held runs are printed too, the addresses of the loads that wait, whether limits are,
 -- what turns cost, and whether lines `even` are

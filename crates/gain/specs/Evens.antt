@@ -12,7 +12,7 @@ use Rattle.turn_costs.specs.Prices.{Prices}
 use Rattle.even_speed.specs.Even.{pacing}
 use Rattle.even_speed.specs.Held.{loads_at}
 use Rattle.all_schedules.specs.Made.{loop_on}
-use Rattle.all_schedules.specs.Paced.{none_waits}
+use Rattle.all_schedules.specs.Holding.{none_waits}
 use Rattle.gain.specs.declared.gains.Study.{Study}
 use Rattle.gain.specs.declared.measure.Measured.{Measured}
 use Rattle.gain.specs.Measured.{IsMeasured}

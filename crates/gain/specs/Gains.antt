@@ -22,9 +22,8 @@ use Rattle.even_speed.specs.declared.terms.Terms.{Terms}
 use Rattle.even_speed.specs.Held.{Holding, loads_at}
 use Rattle.even_speed.specs.Holds.{holding_of}
 use Rattle.dependences.specs.declared.pieces.Pieces.{Pieces}
-use Rattle.all_schedules.specs.Paced.{none_waits}
-use Rattle.all_schedules.specs.Holding.{WaitsInOrder, pieces_of}
-use Rattle.all_schedules.specs.Stores.{HasRefused, RunsOnAll, on_store}
+use Rattle.all_schedules.specs.Holding.{WaitsInOrder, none_waits}
+use Rattle.replay_command.specs.Stores.{HasRefused, RunsOnAll, on_store, pieces_of}
 use Rattle.gain.specs.declared.gains.Study.{Study}
 use Rattle.gain.specs.declared.lines.Waiting.{Waiting}
 use Rattle.gain.specs.Lines.{AddLines}

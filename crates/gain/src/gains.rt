@@ -3,12 +3,13 @@ ghost use Rattle.std.specs.Prelude.{◌≡◌, ◌≤◌, ◌+◌, IfOk, MatchRe
 ghost use Rattle.rv32_image.specs.Input.{TakesAtMost};
 ghost use Rattle.rv32_image.specs.ImageText.{longest_image_text};
 ghost use Rattle.rv32_image.specs.Reading.{ForText};
-ghost use Rattle.all_schedules.specs.Stores.{RunsOnAll};
+ghost use Rattle.replay_command.specs.Stores.{RunsOnAll};
 ghost use Rattle.gain.specs.Gains as spec;
 
 use crate::limit_lines::push_limits;
 use crate::stores::push_stores;
-use all_schedules::{CoreCount, Room, StoreWords, check_stores};
+use all_schedules::Room;
+use replay_command::{CoreCount, StoreWords, check_stores};
 use rv32_image::{Image, read_image};
 use std::alloc::{AllocError, Global};
 use std::convert::AsStr;

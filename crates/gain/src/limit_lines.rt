@@ -5,8 +5,8 @@ ghost use Rattle.gain.specs.Limits as spec;
 
 use crate::lines::more_counts;
 use crate::text::push_number;
-use all_schedules::CoreCount;
 use limits::{Limits, limits_in_order};
+use replay_command::CoreCount;
 use rv32_exec::Image;
 use std::alloc::{AllocError, Global};
 

@@ -1,8 +1,7 @@
 //! The lines of all stores.
 ghost use Rattle.std.specs.Prelude.{IfOk, OnOk, map};
 ghost use Rattle.trace_commands.specs.Stores.{store_named};
-ghost use Rattle.all_schedules.specs.Holding.{pieces_of};
-ghost use Rattle.all_schedules.specs.Stores.{RunsOn, RunsOnAll};
+ghost use Rattle.replay_command.specs.Stores.{RunsOn, RunsOnAll, pieces_of};
 ghost use Rattle.gain.specs.Gains as spec;
 
 use crate::even_lines::push_evens;
@@ -10,8 +9,9 @@ use crate::gains::Study;
 use crate::lines::{Waiting, push_lines};
 use crate::study_on::StudyOn;
 use crate::text::shows_held;
-use all_schedules::{LoopOn, holds_at, holds_in_order, pieces_of, store_on};
+use all_schedules::{LoopOn, holds_at, holds_in_order};
 use even_speed::Terms;
+use replay_command::{pieces_of, store_on};
 use rv32_image::Image;
 use spec_bus::CachedBus;
 use std::alloc::{AllocError, Global};

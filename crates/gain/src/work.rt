@@ -4,14 +4,15 @@ ghost use Rattle.rv32_image.specs.Input.{TakesAtMost};
 ghost use Rattle.rv32_image.specs.ImageText.{longest_image_text};
 ghost use Rattle.rv32_image.specs.Reading.{ForText};
 ghost use Rattle.trace_commands.specs.Stores.{names_store, or_both};
-ghost use Rattle.all_schedules.specs.Addresses.{addresses_of};
+ghost use Rattle.replay_command.specs.Addresses.{addresses_of};
 ghost use Rattle.gain.specs.Asked.{asked_before_limits, asks_even, asks_held, asks_limits, gain_asked_in, without_even, without_held, without_limits};
 ghost use Rattle.gain.specs.Gains.{GainAnswers};
 ghost use Rattle.gain.specs.Work as spec;
 
 use crate::gains::{Study, do_gain};
-use all_schedules::{
-    CoreCount, Room, StoreWords, addresses_of, costs_behind, stores_asked, wait_place, wait_words,
+use all_schedules::Room;
+use replay_command::{
+    CoreCount, StoreWords, addresses_of, costs_behind, stores_asked, wait_place, wait_words,
 };
 use std::alloc::{AllocError, Global};
 use std::convert::AsStr;
@@ -21,7 +22,7 @@ use trace_commands::{CommandStop, Outcome, first_word};
 /// The whole program: what the loop gains on as many cores as the words ask for, 1 to 16, over each of the stores that they name,
 /// `gain CORES STORE ..`; over caches and the plain store, where they name none. Behind these, with `--held`, also of held runs, and with
 /// `--wait PC ..` where the loads at these addresses of code wait. With `--limits` behind that, also what its dependences allow. Behind all of
-/// them may stand what turns cost, as `all_schedules::costs_behind` reads it, and last `--even-at`, which asks up to which costs it gains. The
+/// them may stand what turns cost, as `replay_command::costs_behind` reads it, and last `--even-at`, which asks up to which costs it gains. The
 /// first word is the program's name.
 ///
 /// Any other words are refused as `usage`, with status 2, and nothing is read or written.

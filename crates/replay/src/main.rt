@@ -2,8 +2,9 @@
 //! trace, and prints what exactly that schedule makes, over the store `caches` or `plain`; and runs on threads over that store.
 #![tactic(auto)]
 
-use all_schedules::{Invocation, Room, work};
+use all_schedules::Room;
 use core_threads::Open;
+use replay_command::{Invocation, work};
 use std::alloc::Global;
 use std::process::ExitCode;
 use trace_commands::{ROOM, spelled_words_given};

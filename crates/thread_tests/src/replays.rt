@@ -3,8 +3,9 @@
 ghost use Rattle.std.specs.Prelude.{◌≤◌};
 
 use crate::words::{cell, is_row, number};
-use all_schedules::{Invocation, Room, work};
+use all_schedules::Room;
 use core_threads::Open;
+use replay_command::{Invocation, work};
 use std::alloc::Global;
 use std::convert::AsStr;
 use std::process::Abort;

@@ -1,6 +1,6 @@
 use Rattle.std.proofs.Common.{ℕ, List, map, drop}
 use Rattle.depends.specs.Lines.{AddStores}
-use Rattle.all_schedules.specs.Stores.{RunsOnAll}
+use Rattle.replay_command.specs.Stores.{RunsOnAll}
 use Rattle.depends.proofs.lines.push_stores.Given as goal
 
 -- what the stores that are left add to the text, all add to the text before

@@ -1,6 +1,6 @@
 use Rattle.std.proofs.Common.{map, sym}
 use Rattle.trace_commands.specs.Stores.{or_both}
-use Rattle.all_schedules.proofs.Asking.{few_asked}
+use Rattle.replay_command.proofs.Asking.{few_asked}
 use Rattle.depends.proofs.Answering.{depends_answers, refused_answers}
 use Rattle.depends.proofs.work.work.Goals as goal
 

@@ -1,5 +1,5 @@
 use Rattle.std.proofs.Common.{ℕ, List, map, drop}
-use Rattle.all_schedules.specs.Stores.{RunsOnAll}
+use Rattle.replay_command.specs.Stores.{RunsOnAll}
 use Rattle.gain.specs.Gains.{AddStores}
 use Rattle.gain.proofs.stores.push_stores.Given as goal
 

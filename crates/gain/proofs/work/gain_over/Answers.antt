@@ -2,7 +2,7 @@ use Rattle.std.proofs.Common.{ℕ, List, map, subst, ◌∙◌}
 use Rattle.rv32_image.specs.Reading.{ForText}
 use Rattle.trace_commands.specs.Stores.{or_both}
 use Rattle.trace_commands.specs.Program.{Stream}
-use Rattle.all_schedules.proofs.Paces.{none_taken}
+use Rattle.replay_command.proofs.Paces.{none_taken}
 use Rattle.gain.specs.Gains.{GainAnswers}
 use Rattle.gain.proofs.Answering.{no_memory}
 use Rattle.gain.proofs.work.gain_over.Goals as goal

@@ -1,6 +1,6 @@
 use Rattle.std.proofs.Common.{map, sym}
 use Rattle.trace_commands.specs.Stores.{or_both}
-use Rattle.all_schedules.specs.Addresses.{addresses_of}
+use Rattle.replay_command.specs.Addresses.{addresses_of}
 use Rattle.gain.proofs.Answering.{gain_answers, refused_answers}
 use Rattle.gain.proofs.work.work.Goals as goal
 

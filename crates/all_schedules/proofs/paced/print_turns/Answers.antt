@@ -1,5 +1,0 @@
-use Rattle.std.proofs.Common.{rules}
-use Rattle.all_schedules.proofs.paced.print_turns.Goals as goal
-
-pub returns : goal.returns
-returns g c = (c.in_ok-shown.shown.1.items, c.in_ok-shown.ensures, search rules)

@@ -1,8 +1,0 @@
-use Rattle.all_schedules.proofs.Digits.{parsed, unparsed}
-use Rattle.all_schedules.proofs.words.number_of_64_bits.Goals as goal
-
-pub returns-in-Ok : goal.returns-in-Ok
-returns-in-Ok c = parsed c.args.digits.now c.in-Ok.number c.requires c.in-Ok.ensures.value.0
-
-pub returns-in-Err : goal.returns-in-Err
-returns-in-Err c = unparsed c.args.digits.now c.requires c.in-Err.ensures.value.0
