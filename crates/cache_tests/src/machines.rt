@@ -88,7 +88,7 @@ fn try_row(rt: &impl Abort, alloc: Global, row: &str) -> Result<(), Fail> {
     let (machine, size) = (machine_of(cell(row, 0)), number(cell(row, 1), 0));
     assert!(rt; machine.fits(size) == is_fit(row), "{row}");
     let image = image_with(alloc, size)?;
-    let copy = image.copy(alloc)?;
+    let copy = image.copy()?;
     match copy.with_machine(machine) {
         Some(other) => assert!(rt;
             is_fit(row) && other.machine() == machine && is_same_loop(&image, &other),

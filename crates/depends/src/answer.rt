@@ -70,7 +70,7 @@ fn answer_image<S: AsStr, W: Write>(
     ensures { MatchResult result (λ _. spec.IsWrittenOf image.now cores (map S.text stores.now.words.now) room (W.contents writer.old) (W.contents writer.new))
         (spec.IsUnwrittenOf image.now cores (map S.text stores.now.words.now) room (W.contents writer.old) (W.contents writer.new)) }
 {
-    check_stores(alloc, image, cores, stores.words)?;
+    check_stores(image, cores, stores.words)?;
     let Ok(text) = print_lines(alloc, image, cores, stores.words, room) else {
         return Err(Outcome::Stopped(CommandStop::NoMemory));
     };

@@ -95,7 +95,7 @@ fn push_store(
     requires ran { IsRun image.now ran }
     ensures { OnOk result (spec.AddStore image.now cores room word.now (store_named word.now) text.old.items text.new.items) }
 {
-    let (store, image) = store_on(alloc, image, cores, word)?;
+    let (store, image) = store_on(image, cores, word)?;
     let on = LoopOn {
         image: &image,
         cores: cores.count(),
@@ -111,7 +111,7 @@ fn line_of(alloc: Global, on: &LoopOn<'_>, store: Store, ran: InOrder) -> Result
     ensures { IfOk result (spec.IsLineOf on.now.image.now store on.now.cores on.now.room) }
 {
     match store {
-        Store::Caches(_) => line_over_caches(alloc, on),
+        Store::Caches(_) => line_over_caches(alloc, on, ran.nearest),
         Store::Plain => line_over_plain(alloc, on, ran),
     }
 }

@@ -92,7 +92,7 @@ fn gains_of_image<S: AsStr, W: Write>(
     ensures { MatchResult result (λ _. spec.IsWrittenOf image.now study.now addresses.now (map S.text stores.now.words.now) (W.contents writer.old) (W.contents writer.new))
         (spec.IsUnwrittenOf image.now study.now addresses.now (map S.text stores.now.words.now) (W.contents writer.old) (W.contents writer.new)) }
 {
-    check_stores(alloc, image, study.cores, stores.words)?;
+    check_stores(image, study.cores, stores.words)?;
     let Ok(text) = text_of(alloc, image, study, addresses, stores.words) else {
         return Err(Outcome::Stopped(CommandStop::NoMemory));
     };

@@ -51,7 +51,7 @@ fn push_store(
     requires store { RunsOn image.now study.now.cores (store_named word.now) }
     ensures { OnOk result (spec.AddStore study.now addresses.now image.now word.now (store_named word.now) text.old.items text.new.items) }
 {
-    let (store, image) = store_on(alloc, image, study.cores, word)?;
+    let (store, image) = store_on(image, study.cores, word)?;
     let asked = StudyOn {
         image: &image,
         study,

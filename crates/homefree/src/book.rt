@@ -115,7 +115,7 @@ impl<S: EpochStore> Book<S> {
     {
         let store: S = S::fresh(alloc, image, cores)?;
         let running = idle_cores(alloc, cores)?;
-        let image = image.copy(alloc)?;
+        let image = image.copy()?;
         let (totals, shares) = open();
         let end = end_at_first(&image);
         let register = Register {

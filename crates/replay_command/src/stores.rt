@@ -9,31 +9,26 @@ use crate::core_count::CoreCount;
 use dependences::Pieces;
 use run_command::runnable;
 use rv32_image::Image;
-use std::alloc::{AllocError, Global};
+use std::alloc::AllocError;
 use std::convert::AsStr;
 use trace_commands::{CommandStop, Outcome, Store, store_named};
 
 /// Whether the machine of each store that these words name can run the image on so many cores.
 ///
-/// `Usage`: one can't. `Stopped`: memory ran out.
-pub fn check_stores<S: AsStr>(
-    alloc: Global,
-    image: &Image,
-    cores: CoreCount,
-    words: &[S],
-) -> Result<(), Outcome>
+/// `Usage`: one can't. `Stopped`: there are too many copies of the image, 2^63 - 1.
+pub fn check_stores<S: AsStr>(image: &Image, cores: CoreCount, words: &[S]) -> Result<(), Outcome>
     requires stores { list_all names_store (map S.text words.now) ≡ true }
     ensures { MatchResult result (λ _. spec.RunsOnAll image.now cores (map S.text words.now))
         (spec.IsStop (spec.HasRefused image.now cores (map S.text words.now))) }
 {
     for word in words {
-        check_store(alloc, image, cores, word.as_str())?;
+        check_store(image, cores, word.as_str())?;
     }
     Ok(())
 }
 
 /// So of the store that this word names.
-fn check_store(alloc: Global, image: &Image, cores: CoreCount, word: &str) -> Result<(), Outcome>
+fn check_store(image: &Image, cores: CoreCount, word: &str) -> Result<(), Outcome>
     requires store { names_store word.now ≡ true }
     ensures { MatchResult result (λ _. spec.RunsOn image.now cores (store_named word.now))
         (spec.IsStop (spec.IsRefused image.now cores (store_named word.now))) }
@@ -41,7 +36,7 @@ fn check_store(alloc: Global, image: &Image, cores: CoreCount, word: &str) -> Re
     let Some(store) = store_named(word) else {
         unreachable!()
     };
-    let Ok(image) = image.copy(alloc) else {
+    let Ok(image) = image.copy() else {
         return Err(Outcome::Stopped(CommandStop::NoMemory));
     };
     match runnable(image, store.asked(), cores.count()) {
@@ -52,13 +47,8 @@ fn check_store(alloc: Global, image: &Image, cores: CoreCount, word: &str) -> Re
 
 /// The store that a word names, and the loop on the machine that it asks for, which can run the image on so many cores.
 ///
-/// `AllocError`: memory ran out.
-pub fn store_on(
-    alloc: Global,
-    image: &Image,
-    cores: CoreCount,
-    word: &str,
-) -> Result<(Store, Image), AllocError>
+/// `AllocError`: there are too many copies of the image, 2^63 - 1.
+pub fn store_on(image: &Image, cores: CoreCount, word: &str) -> Result<(Store, Image), AllocError>
     requires { spec.RunsOn image.now cores (store_named word.now) }
     ensures store { IfOk result (λ found. store_named word.now ≡ Some found.0) }
     ensures image { IfOk result (λ found. found.1 ≡ spec.on_store found.0 image.now) }
@@ -67,7 +57,7 @@ pub fn store_on(
     let Some(store) = store_named(word) else {
         unreachable!()
     };
-    let Ok(image) = image.copy(alloc) else {
+    let Ok(image) = image.copy() else {
         return Err(AllocError);
     };
     match store.asked().on(image) {

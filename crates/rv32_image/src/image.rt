@@ -13,6 +13,7 @@ use memory_bytes::read_number;
 use rv32_decode::{Destination, Instr, Offset, Refused, decode};
 use std::alloc::{AllocError, Global};
 use std::marker::Model;
+use std::sync::ArcSlice;
 use thiserror::Error;
 
 /// Memory ran out.
@@ -58,8 +59,8 @@ pub(crate) struct Header {
 #[derive(Drop)]
 pub struct Image {
     header: Header,
-    bytes: Vec<u8>,
-    program: Vec<Instr>,
+    bytes: ArcSlice<u8>,
+    program: ArcSlice<Instr>,
 }
 
 impl Model for Image {
@@ -85,19 +86,19 @@ impl Image {
         let program = decoded(alloc, header.code, bytes.as_slice())?;
         Ok(Image {
             header,
-            bytes,
-            program,
+            bytes: ArcSlice::from_vec(bytes)?,
+            program: ArcSlice::from_vec(program)?,
         })
     }
 
-    /// A copy of the image.
+    /// A copy of the image. All copies share their bytes, so it costs the same for any size.
     ///
-    /// `NoMemory`: there was no memory for it, and nothing was made.
-    pub fn copy(&self, alloc: Global) -> Result<Image, NoMemory>
+    /// `NoMemory`: there are too many copies, 2^63 - 1.
+    pub fn copy(&self) -> Result<Image, NoMemory>
         ensures { IfOk result (λ image. image ≡ self.now) }
     {
-        let bytes = Vec::from_slice(alloc, self.bytes.as_slice())?;
-        let program = Vec::from_slice(alloc, self.program.as_slice())?;
+        let bytes = self.bytes.clone()?;
+        let program = self.program.clone()?;
         Ok(Image {
             header: self.header,
             bytes,

@@ -37,7 +37,7 @@ impl Machine {
         } else {
             None
         };
-        let image = image.copy(alloc)?;
+        let image = image.copy()?;
         Ok(Machine {
             image,
             committed,

@@ -37,7 +37,7 @@ impl PlainFlat {
             idle.push(None)?;
         }
         let mut flat = PlainFlat {
-            image: image.copy(alloc)?,
+            image: image.copy()?,
             committed: image.bytes().to_vec(alloc)?,
             homefree: 0,
             published: 0,
