@@ -15,7 +15,8 @@ use conflict_findings::{
     finding_of, pairs_by_weight,
 };
 use conflicts::{
-    Blame, ByteRange, Explanation, Kind, Runner, Site, attempt_number, explain, sites,
+    Blame, ByteRange, Explanation, Kind, Runner, Site, attempt_number, explain, explain_with_sites,
+    sites,
 };
 use rv32_exec::{Image, image_of};
 use spec_history::{Entry, What};
@@ -73,6 +74,13 @@ impl Worked {
         }
     }
 
+    fn with_sites(&self, alloc: Global) -> Result<(Vec<Explanation>, Vec<Option<Site>>), Fail> {
+        match explain_with_sites(alloc, &self.image, self.cores, self.entries.as_slice()) {
+            Ok(found) => Ok(found),
+            Err(_) => Err(Fail::from("a legal history")),
+        }
+    }
+
     /// What is found of a violation, over what is kept of attempts before it.
     fn found_over(
         &self,
@@ -92,8 +100,7 @@ impl Worked {
 
     /// What is found of each violation, in order, with what is kept of those before.
     fn found(&self, alloc: Global) -> Result<Vec<Finding>, Fail> {
-        let explained = self.explained(alloc)?;
-        let stood = self.sites(alloc)?;
+        let (explained, stood) = self.with_sites(alloc)?;
         let mut followed = Followed::new(alloc);
         let mut found = Vec::new(alloc);
         for e in explained {

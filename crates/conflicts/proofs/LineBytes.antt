@@ -8,9 +8,9 @@ use Rattle.rv32_image.specs.declared.apart.Apart.{Apart}
 use Rattle.rv32_image.specs.declared.machine.Machine.{Machine}
 use Rattle.rv32_image.specs.Image.{LoadedImage}
 use Rattle.rv32_image.specs.Machine.{IsMachineFor, is_line_length}
-use Rattle.rv32_image.specs.Places.{lies_apart, place, place_by, place_with}
+use Rattle.rv32_image.specs.Places.{lies_apart, place, place_with}
 use Rattle.rv32_image.proofs.Bounds.{by_length, behind_line}
-use Rattle.rv32_image.proofs.Places.{place-none, place-stays}
+use Rattle.rv32_image.proofs.Places.{place-apart, place-none, place-stays}
 use Rattle.spec_history.specs.Conflict.{line_number, line_count}
 use Rattle.conflicts.specs.declared.explanation.ByteRange.{ByteRange}
 use Rattle.conflicts.specs.Blame.{line_bytes, piece_bytes}
@@ -36,11 +36,6 @@ record IsBehind (image : LoadedImage) (a : ℕ) : Type 0 where
   pub last : a < apart.first + apart.length
   pub at : place image.machine image.size a ≡ image.size + ((a - apart.first) / apart.piece * image.machine.line_length + (a - apart.first) % apart.piece)
 
--- a machine's places where this lies apart
-apart_is : (machine : Machine) (apart : Apart) (size a : ℕ) → machine.apart ≡ Some apart → place machine size a ≡ place_with apart machine.line_length size a
-unfolding place
-apart_is machine apart size a is = ap (λ (o : Option Apart). place_by o machine.line_length size a) is
-
 at_apart : (apart : Apart) (n size a : ℕ) → lies_apart apart a ≡ true → place_with apart n size a ≡ size + ((a - apart.first) / apart.piece * n + (a - apart.first) % apart.piece)
 at_apart apart n size a e = rw e refl
 
@@ -62,7 +57,7 @@ stays_or_behind image a lt =
       is = is;
       first = grind (arith, nat_tests);
       last = grind (arith, nat_tests);
-      at = apart_is image.machine apart image.size a is ∙ at_apart apart image.machine.line_length image.size a e;
+      at = place-apart image.machine apart image.size a is ∙ at_apart apart image.machine.line_length image.size a e;
     })
 
 -- ---- the bytes of a line
@@ -118,7 +113,7 @@ module _ (image : LoadedImage) (fits : IsMachineFor image.size image.machine) wh
   past_is apart a is le =
       let f = fits.apart apart is in
       let out : lies_apart apart a ≡ false = grind (arith, nat_tests, f.within) in
-      apart_is image.machine apart image.size a is ∙ at_past apart long image.size a out le
+      place-apart image.machine apart image.size a is ∙ at_past apart long image.size a out le
 
   end_is : (apart : Apart) → image.machine.apart ≡ Some apart → place image.machine image.size image.size ≡ image.size + ((apart.length - 1) / apart.piece + 1) * long
   end_is apart is = past_is apart image.size is (omega arith)

@@ -57,7 +57,10 @@ pub fn explain(
 }
 
 /// The list with an explanation at its end, if there is one.
-fn keep(explanations: &mut Vec<Explanation>, found: Option<Explanation>) -> Result<(), AllocError>
+pub(crate) fn keep(
+    explanations: &mut Vec<Explanation>,
+    found: Option<Explanation>,
+) -> Result<(), AllocError>
     ensures { OnOk result (explanations.new.items ≡ explanations.old.items ++ option_to_list found) }
 {
     if let Some(explanation) = found {

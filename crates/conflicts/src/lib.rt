@@ -19,6 +19,7 @@ mod meeting;
 mod scene;
 mod standing;
 mod victim;
+mod with_sites;
 
 pub use accesses::{attempt_number, attempt_place, begins, reads_outside};
 pub use addresses::{line_bytes, line_number};
@@ -33,4 +34,5 @@ pub use known::Known;
 pub use meeting::{LineTest, Parties};
 pub use scene::Scene;
 pub use spec_history::Kind;
-pub use standing::{Site, site_of, sites};
+pub use standing::{Site, site_of};
+pub use with_sites::{explain_with_sites, sites};

@@ -6,7 +6,7 @@ ghost use Rattle.shown_conflicts.specs.Violation.{HasViolation};
 ghost use Rattle.depends.specs.Shown as spec;
 
 use all_schedules::{LoopOn, drive_schedule};
-use conflicts::{Blame, Explanation, Site, explain, sites};
+use conflicts::{Blame, Explanation, Site, explain_with_sites};
 use homefree::{Book, TurnFault};
 use rv32_exec::Image;
 use spec_history::Entry;
@@ -67,10 +67,7 @@ pub fn first_of(
     ensures is { IfOk result (λ shown. IfSome shown (spec.IsOf image.now cores history.now)) }
     ensures some { HasViolation history.now → IfOk result IsSome }
 {
-    let Ok(explanations) = explain(alloc, image, cores, history) else {
-        return Err(AllocError);
-    };
-    let Ok(sites) = sites(alloc, image, cores, history) else {
+    let Ok((explanations, sites)) = explain_with_sites(alloc, image, cores, history) else {
         return Err(AllocError);
     };
     match first_explanation(explanations.as_slice()) {

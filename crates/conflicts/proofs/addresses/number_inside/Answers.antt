@@ -1,5 +1,4 @@
 use Rattle.std.proofs.Common.{◌<◌, sym, subst}
-use Rattle.rv32_image.specs.Places.{place}
 use Rattle.spec_history.specs.Conflict.{line_count}
 use Rattle.spec_history.proofs.Searches.Lines.{number_counted, line_is}
 use Rattle.conflicts.proofs.addresses.number_inside.Goals as goal

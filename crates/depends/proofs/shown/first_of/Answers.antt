@@ -17,7 +17,7 @@ returns-in-Some-clause-is c =
       explanation = e;
       explained = subst (IsExplained c.args.image.now c.args.cores c.args.history.now) (get_or_from_slice_get all 0 e e there)
           (All-get_or (IsExplained c.args.image.now c.args.cores c.args.history.now) all 0 e (slice_get_within all 0 e there) c.in-Ok.ensures.explained);
-      says = c.shown_by.ensures ∙ ap (λ s. shown_by s e) (c.as_slice-in-Some.ensures.value ∙ c.in-Ok-sites.ensures.each);
+      says = c.shown_by.ensures ∙ ap (λ s. shown_by s e) (c.as_slice-in-Some.ensures.value ∙ c.in-Ok.ensures.each_site);
     }
 
 pub returns-clause-some : goal.returns-clause-some
