@@ -9,6 +9,7 @@ use Rattle.rv32_exec.specs.declared.sequential.End.{End}
 use Rattle.rv32_exec.specs.declared.sequential.End.TheVariants.{Done}
 use Rattle.rv32_exec.specs.Hart.{HartState}
 use Rattle.rv32_exec.specs.NextEvent.{next_event}
+use Rattle.rv32_exec.proofs.LawsOfRuns.{later_event}
 use Rattle.spec_history.specs.FlatState.{CoreState, FlatState, first_state}
 use Rattle.spec_history.specs.Replay.{replay}
 use Rattle.spec_history.proofs.Replay.Reaching.{no_entries}
@@ -33,7 +34,6 @@ use Rattle.even_speed.specs.InOrder.{epoch_count, instructions_in_order, steps_i
 use Rattle.even_speed.specs.Kept.{IsTurnOf, IsWaitBefore, told, used}
 use Rattle.even_speed.specs.Pricing.{free_after}
 use Rattle.even_speed.specs.Timed.{AreOnTime, Came, From, GoesTo, IsNextAt, IsOnTime, Leads, IsDueAt, IsNeverIdle, Leaves, Moves, StaysAt, WasOver, busy_of, spent_of, sum_over}
-use Rattle.even_speed.proofs.Events.{later_event}
 use Rattle.even_speed.specs.Account.{WastesNone, no_steps, steps_of, sum_of, total, useful_in}
 use Rattle.even_speed.proofs.OneCore.{account_one}
 use Rattle.even_speed.proofs.Sounding.{account_of-more, account_of-none, at_turn}

@@ -13,6 +13,7 @@ use Rattle.rv32_exec.specs.Arrival.{after_number}
 use Rattle.rv32_exec.specs.NextEvent.{next_event}
 use Rattle.rv32_exec.specs.Sequential.{after_stop, exits}
 use Rattle.rv32_exec.specs.Laws.{HasStopped}
+use Rattle.rv32_exec.proofs.LawsOfRuns.{later_event}
 use Rattle.spec_history.specs.declared.entry.Entry.{Entry}
 use Rattle.spec_history.specs.declared.entry.What.TheVariants as what
 use Rattle.spec_history.specs.Effect.{effect_idle, effect_on, with_core}
@@ -38,7 +39,6 @@ use Rattle.homefree.proofs.State.Ends as ending
 use Rattle.homefree.proofs.State.HurtsReplay.{CanBeHurt, hurts_replay, still_runs}
 use Rattle.homefree.proofs.State.Others.{IsOfSameKind, can_be_hurt_all}
 use Rattle.dependences.specs.Conflict.{memory_before}
-use Rattle.dependences.proofs.Following.{hart_before}
 use Rattle.limits.specs.declared.limit.Waits.{Waits}
 use Rattle.limits.specs.declared.limit.Waits.TheVariants.{Store}
 use Rattle.limits.proofs.Marks.{IsDone, IsPath, IsTimed, IsTimedIn, IsUnder, Marks}
@@ -217,7 +217,7 @@ module _ (image : LoadedImage) (cores core : ℕ) (kind : Waits) (now : ℕ) (s 
         timed_past new epoch store done path_new =
             goes image kind cores now u m past_marks core c going_u.kept timed_u at_u
             (event_alters m core c.epoch c.hart.done event now shown (timed.begun c.epoch) more most) refl unread' new epoch store
-            (λ free. event_under image kind m core event now shown c new under epoch (hart_before image c.hart) its_due done path_new)
+            (λ free. event_under image kind m core event now shown c new under epoch (later_event image c.hart) its_due done path_new)
 
         comes_past : (new : CoreState) (x : FlatState) (entries : List Entry) (hart : HartState) → x.cores ≡ with_core u.cores core (Some new) → new.hurt ≡ false → new.hart ≡ hart
             → IsTimedIn image kind cores now x past_marks → replay_from image cores s entries ≡ Some x → Agrees x w → x.end ≡ None

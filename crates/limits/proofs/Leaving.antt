@@ -7,6 +7,7 @@ use Rattle.rv32_image.proofs.SmallFacts.{one_value, none_and_some}
 use Rattle.rv32_exec.specs.NextEvent.{next_event}
 use Rattle.rv32_exec.specs.Sequential.{after_stop}
 use Rattle.rv32_exec.specs.Laws.{HasStopped}
+use Rattle.rv32_exec.proofs.LawsOfRuns.{later_event}
 use Rattle.spec_history.specs.FlatState.{CoreState, FlatState}
 use Rattle.spec_history.specs.Effect.{with_core}
 use Rattle.spec_history.specs.Laws.{HasBytes}
@@ -17,7 +18,7 @@ use Rattle.dependences.specs.Flow.{DependsAt}
 use Rattle.dependences.specs.Lengths.{Lasts}
 use Rattle.dependences.specs.Paths.{ReadsOutside, StoresAt}
 use Rattle.dependences.proofs.Accessing.{others_not}
-use Rattle.dependences.proofs.Following.{all_loaded, all_stored_early, hart_before}
+use Rattle.dependences.proofs.Following.{all_loaded, all_stored_early}
 use Rattle.dependences.proofs.Outside.{lasts}
 use Rattle.dependences.proofs.Starting.{fresh}
 use Rattle.limits.specs.declared.limit.Waits.{Waits}
@@ -154,7 +155,7 @@ module _ (image : LoadedImage) (waits : Waits) (cores now : ℕ) (s : FlatState)
 
     pub it_is_done : IsDone image waits now m' c.epoch
     it_is_done =
-        let some = hart_before image c.hart in
+        let some = later_event image c.hart in
         let commit = one_here m.timing.commit c.epoch now in record {
           length = event;
           lasts = it_lasts;

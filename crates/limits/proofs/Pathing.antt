@@ -11,6 +11,7 @@ use Rattle.rv32_exec.specs.Execute.{Stops, hart_effect}
 use Rattle.rv32_exec.specs.NextEvent.{next_event}
 use Rattle.rv32_exec.specs.Arrival.{after_number}
 use Rattle.rv32_exec.specs.Sequential.{Runs, SequentialResult, after_steps}
+use Rattle.rv32_exec.proofs.LawsOfRuns.{later_event}
 use Rattle.spec_history.specs.FlatState.{CoreState, FlatState}
 use Rattle.spec_history.specs.Laws.{HasBytes}
 use Rattle.spec_history.proofs.OneEntry.Accesses.{load_counts}
@@ -20,7 +21,7 @@ use Rattle.dependences.specs.Conflict.{memory_before}
 use Rattle.dependences.specs.Paths.{StoresAt}
 use Rattle.dependences.specs.KeptRun.{IsAt}
 use Rattle.dependences.proofs.Paths.{access_stops, past_load, past_store, same_store}
-use Rattle.dependences.proofs.Following.{hart_before, hart_there, load_late, no_both, store_late}
+use Rattle.dependences.proofs.Following.{hart_there, load_late, no_both, store_late}
 use Rattle.dependences.proofs.Outside.{read_by_load, read_by_store}
 use Rattle.memory_bytes.proofs.Bytes.{stored_within}
 use Rattle.memory_bytes.proofs.SmallFacts.{seen_by, some_first, some_unless}
@@ -94,7 +95,7 @@ module _ (image : LoadedImage) (waits : Waits) (m : Marks) (by now : ℕ) (c : C
               (some_first (read_outside address width c.own committed a) (c.outside a) was.0, omega (arith, less, at)))
           | inr from ↦
               (let late = load_late image c.epoch memory c.hart c.own own_at a reads.step reads.there from in
-              let at = at_event m by c.epoch c.hart.done event now m.shown reads.step (hart_before image c.hart) late in
+              let at = at_event m by c.epoch c.hart.done event now m.shown reads.step (later_event image c.hart) late in
               let low_past = past a in
               elim (read_by_load image c.epoch memory c.hart c.own own_at address width signed rd a is reads (omega (arith, low, count))) [
                 | inl before ↦ absurd (omega (arith, before, from))
@@ -204,7 +205,7 @@ module _ (image : LoadedImage) (waits : Waits) (cores now : ℕ) (s : FlatState)
                 let is = same_awaited m.shown (λ b. omega arith) past d step before in omega (arith, was, at, is))
             | inr from ↦
                 (let late = load_late image c.epoch its_memory c.hart p.own p.at a reads.step reads.there from in
-                let at = at_event m by c.epoch c.hart.done its_event now m.shown reads.step (hart_before image c.hart) late in
+                let at = at_event m by c.epoch c.hart.done its_event now m.shown reads.step (later_event image c.hart) late in
                 let one = (done d before).stored a step there in
                 let low_past = past a in
                 let is = same_awaited m.shown (λ b. omega arith) past d step before in omega (arith, one, low_past, at, is))
@@ -227,7 +228,7 @@ module _ (image : LoadedImage) (waits : Waits) (cores now : ℕ) (s : FlatState)
                 let rise = more a in omega (arith, was, at, rise))
             | inr from ↦
                 (let late = store_late image c.epoch its_memory c.hart p.own p.at a place there from in
-                let at = at_event m by c.epoch c.hart.done its_event now shown place (hart_before image c.hart) late in
+                let at = at_event m by c.epoch c.hart.done its_event now shown place (later_event image c.hart) late in
                 let here = hart_there image c.epoch its_memory c.hart p.own p.at place there.hart there.after (omega (arith, late, low)) there.runs in
                 let within = same_store (hart_effect image (next_event image c.hart).now) address width value there.address there.width there.value a
                 (access_stops image c.hart (rw is tt) ∙ ap Stops is) (ap (hart_effect image) here ∙ there.stops) there.from there.below in

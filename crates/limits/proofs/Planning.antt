@@ -7,6 +7,7 @@ use Rattle.rv32_image.specs.Image.{LoadedImage}
 use Rattle.rv32_image.proofs.SmallFacts.{none_and_some, one_value}
 use Rattle.rv32_exec.specs.Hart.{HartState, start_of}
 use Rattle.rv32_exec.specs.NextEvent.{next_event}
+use Rattle.rv32_exec.proofs.LawsOfRuns.{later_event}
 use Rattle.spec_history.specs.declared.entry.Entry.{Entry}
 use Rattle.spec_history.specs.FlatState.{CoreState, FlatState, begun}
 use Rattle.spec_history.proofs.OneEntry.Going.{Going}
@@ -20,7 +21,6 @@ use Rattle.homefree.specs.Driven.{Driver}
 use Rattle.homefree.specs.Turned.{IsEnd}
 use Rattle.dependences.specs.Conflict.{IsInOrder}
 use Rattle.dependences.specs.Kept.{AreAll}
-use Rattle.dependences.proofs.Following.{hart_before}
 use Rattle.dependences.proofs.Starting.{IsFresh}
 use Rattle.even_speed.specs.declared.clock.Clock.{Clock}
 use Rattle.even_speed.specs.declared.clock.Next.{Next}
@@ -351,7 +351,7 @@ module _ {S : Type 0} (paced : Pacing S) (view : S → StoreView) (waits : S →
           let n' = (next_event image b.now.hart).now.done in
           let most : t.at ≤ plan.at b.now.epoch n = subst (λ e. t.at ≤ plan.at e n) (sym b.epoch) (by_access t.core b.was b.ran order' b.access) in
           let count : b.now.hart.done ≡ n + 1 = ap (λ (h : HartState). h.done) b.hart_is ∙ b.count in
-          let before = hart_before image b.now.hart in
+          let before = later_event image b.now.hart in
           let rise = places_rise image cores epochs plan all y b.now.epoch n b.now.hart b.now.own low ((after.quiet t.core b.now b.runs).path order) (omega (arith, count, before)) in
           by_due t.at u.homefree b.now.epoch (plan.at b.now.epoch n') (t.at + 1 + (n' - b.now.hart.done)) (next_event image b.now.hart).at (passed_clocks t.core).next
           (go_own hart ∙ ap (λ (h : HartState). Due (t.at + 1 + ((next_event image h).now.done - h.done))) (sym b.hart_is)) (omega arith) (omega (arith, most, count, before, rise))

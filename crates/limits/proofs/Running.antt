@@ -14,6 +14,7 @@ use Rattle.rv32_exec.specs.NextEvent.{next_event}
 use Rattle.rv32_exec.specs.Arrival.{after_number}
 use Rattle.rv32_exec.specs.Sequential.{SequentialResult, after_stop, first_epochs}
 use Rattle.rv32_exec.specs.Laws.{HasStopped}
+use Rattle.rv32_exec.proofs.LawsOfRuns.{later_event}
 use Rattle.spec_history.proofs.OneEntry.Accesses.{load_counts}
 use Rattle.spec_history.proofs.OneEntry.Progress.{counted}
 use Rattle.dependences.specs.Paths.{ReadsOutside, StoresAt}
@@ -22,7 +23,7 @@ use Rattle.dependences.specs.Flow.{DependsAt, LastStore}
 use Rattle.dependences.specs.Kept.{AreAll}
 use Rattle.dependences.specs.KeptRun.{IsAt}
 use Rattle.dependences.proofs.Paths.{access_stops, at_start, before_event, covered, either, load_after, loads_there, neither, past_load, past_store, same_store, start_after, store_after, stores_there, to_event}
-use Rattle.dependences.proofs.Following.{all_loaded, all_stored_early, hart_before, hart_there, load_late, no_both, store_late, unmarked}
+use Rattle.dependences.proofs.Following.{all_loaded, all_stored_early, hart_there, load_late, no_both, store_late, unmarked}
 use Rattle.dependences.proofs.Outside.{OnPath, lasts, read_by_load, read_by_store, seen_now}
 use Rattle.limits.specs.declared.limit.Waits.{Waits}
 use Rattle.limits.specs.declared.limit.Waits.TheVariants.{Commit, Store}
@@ -304,7 +305,7 @@ module _ (image : LoadedImage) (cores epoch : ℕ) (waits : Waits) (commits memo
 
     new_are : AreBases image waits x.timing epoch x.begin new_bases
     new_are =
-        let later = hart_before image h in record {
+        let later = later_event image h in record {
           rise = λ place. elim (cases_lt place (next_event image h).now.done) [
             | inl low ↦ elim (cases_lt (place + 1) (next_event image h).now.done) [
               | inl low' ↦ (let same = new_below place low in let same' = new_below (place + 1) low' in let rise = x.are.rise place in omega (arith, same, same', rise))
@@ -352,7 +353,7 @@ module _ (image : LoadedImage) (cores epoch : ℕ) (waits : Waits) (commits memo
     running_load value base' number is_raised =
         let seen = seen_now image epoch (memory_before image epoch) memory h x.own x.at x.is address width value number in
         let count = load_counts image h address width signed rd value is in
-        let later = hart_before image h in record {
+        let later = later_event image h in record {
           own = x.own;
           at = past_load image epoch (memory_before image epoch) h x.own address width signed rd value x.at is seen;
           is = load_after image epoch (memory_before image epoch) h x.own address width signed rd value x.at is seen ∙ x.is;
@@ -405,12 +406,12 @@ module _ (image : LoadedImage) (cores epoch : ℕ) (waits : Waits) (commits memo
         stored = (next_event image h).now.done;
         there = stores_there image epoch (memory_before image epoch) h x.own x.at address width value a is within.0 within.1;
         low = omega arith;
-        is = marked.stores.here a within.0 within.1 ∙ (at ∙ sym (ap (λ n. n + (next_event image h).now.done) (x.rest (next_event image h).now.done (hart_before image h))));
+        is = marked.stores.here a within.0 within.1 ∙ (at ∙ sym (ap (λ n. n + (next_event image h).now.done) (x.rest (next_event image h).now.done (later_event image h))));
         last = λ q low there. omega (arith, low);
       }
   mine_by s' address width value writer step a byte is marked number at None now (inl some) = let one = some.1 in absurd cc
   mine_by s' address width value writer step a byte is marked number at None now (inr before) =
-      let later = hart_before image h in
+      let later = later_event image h in
       rw (
         unmarked s.writers s'.writers address width _ value a marked.writers now,
         unmarked s.stores s'.stores address width _ value a marked.stores now,
@@ -422,7 +423,7 @@ module _ (image : LoadedImage) (cores epoch : ℕ) (waits : Waits) (commits memo
       → AreMarked s s' address width writer step → writer ≡ epoch + 1 → step ≡ base + (next_event image h).now.done
       → Running image cores epoch waits commits (with_number memory address width value) s' (stepped (next_event image h).now) base
   running_store s' address width value writer step is marked number step_is =
-      let later = hart_before image h in record {
+      let later = later_event image h in record {
         own = joined (stored address width value) x.own;
         at = past_store image epoch (memory_before image epoch) h x.own address width value x.at is;
         is = store_after image epoch (memory_before image epoch) h x.own address width value x.at is ∙ ap (λ m. with_number m address width value) x.is;
@@ -495,7 +496,7 @@ module _ (image : LoadedImage) (cores epoch : ℕ) (waits : Waits) (commits memo
         let commit = max end (last_commit commits) in
         let t' = with_epoch x.timing epoch x.begin x.bases commit in
         let w = with_it x.timing epoch x.begin x.bases commit in
-        let rest = x.rest (next_event image h).now.done (hart_before image h) in
+        let rest = x.rest (next_event image h).now.done (later_event image h) in
         let most = most_done in
         let soon = x.soon in
         let all = committed_more image waits cores epoch commits x.timing x.before some x.begin (next_event image h).now.done end x.bases x.begins x.are

@@ -5,7 +5,7 @@ use Rattle.rv32_image.specs.Image.{LoadedImage}
 use Rattle.rv32_exec.specs.Hart.{HartState, start_of}
 use Rattle.rv32_exec.specs.Sequential.{Progress, Runs, Ends, Faults, after_steps, epoch_outcome, execute, go_on}
 use Rattle.rv32_exec.specs.Laws.{HasStopped}
-use Rattle.rv32_exec.proofs.LawsOfRuns.{after_steps-+, epoch_stops, one_step}
+use Rattle.rv32_exec.proofs.LawsOfRuns.{after_steps-+, epoch_stops, no_step, one_step}
 use Rattle.dependences.specs.Paths.{StoresAt}
 use Rattle.dependences.specs.Conflict.{memory_before}
 use Rattle.dependences.specs.Lengths.{Lasts}
@@ -50,10 +50,6 @@ record Stopped (image : LoadedImage) (from : HartState) (memory : List ℕ) : Ty
   pub after : List ℕ
   pub runs : after_steps image count from memory ≡ Runs hart after
   pub stops : HasStopped (execute image hart after)
-
-no_step : (image : LoadedImage) (h : HartState) (memory : List ℕ) → after_steps image 0 h memory ≡ Runs h memory
-unfolding after_steps
-no_step image h memory = refl
 
 stopped_by : (image : LoadedImage) (n : ℕ) (from : HartState) (memory : List ℕ) (p : Progress) → execute image from memory ≡ p → HasStopped (go_on p (after_steps image n))
     → ((h : HartState) (m : List ℕ) → HasStopped (after_steps image n h m) → Stopped image h m) → Stopped image from memory

@@ -1,6 +1,6 @@
 -- Small facts of tests, numbers, options, results and lists, and of the bytes of an access, that the standard library has
 -- under no name.
-use Rattle.std.proofs.Common.{◌≡◌, ◌≢◌, ◌⊎◌, ℕ, zero, suc, ◌+◌, ◌<◌, ◌≤◌, ◌==◌, ◌&&◌, ◌||◌, not, nat_cmp, nat_lt, is_eq, is_err, is_none, is_some, Bool, true, false, cond, List, [], ◌∷◌, ◌++◌, OnOk, Ok, Err, Option, Some, None, Ordering, Less, Equal, Greater, Result, slice_get, true≢false, unwrap_or, refl, sym, ap, subst, ◌∙◌, inl, inr, arith, eqb-true, ltb-true}
+use Rattle.std.proofs.Common.{◌≡◌, ◌≢◌, ◌⊎◌, ℕ, zero, suc, ◌+◌, ◌<◌, ◌≤◌, ◌==◌, ◌&&◌, ◌||◌, not, nat_cmp, nat_lt, is_eq, is_err, is_none, is_some, Bool, true, false, cond, List, [], ◌∷◌, ◌++◌, OnOk, Ok, Err, Option, Some, None, Ordering, Less, Equal, Greater, Result, slice_get, true≢false, unwrap_or, refl, sym, ap, subst, ◌∙◌, inl, inr, arith, eq-eqb, eqb-true, ltb-true}
 use Rattle.std.specs.Ordering.{ordering_then}
 use Rattle.std.proofs.lemmas.Bool.{false_from_ne_true}
 use Rattle.std.proofs.lemmas.Cmp.{by_ranked, ranked}
@@ -55,6 +55,10 @@ or_and_false false false = refl
 -- a number below another isn't equal to it
 pub less_apart : (a b : ℕ) → nat_lt a b ≡ true → (a == b) ≡ false
 less_apart a b less = false_from_ne_true (a == b) (λ same. omega (arith, ltb-true a b less, eqb-true a b same))
+
+-- two numbers equal others
+pub equal_both : (a b c d : ℕ) → a ≡ b → c ≡ d → ((a == b) && (c == d)) ≡ true
+equal_both a b c d first second = rw (eq-eqb a b first, eq-eqb c d second) refl
 
 -- what follows from how two numbers compare holds of their order
 pub by_numbers : (a b : ℕ) (P : Ordering → Type 0) → (a < b → P Less) → (a ≡ b → P Equal) → (b < a → P Greater) → P (nat_cmp a b)

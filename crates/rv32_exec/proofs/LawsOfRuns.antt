@@ -1,5 +1,5 @@
 -- Proofs of the laws.
-use Rattle.std.proofs.Common.{◌≡◌, ℕ, zero, suc, ◌+◌, ◌-◌, ◌<◌, ◌≤◌, ◌==◌, nat_le, Bool, true, false, cond, List, refl, sym, ap, ◌∙◌, arith}
+use Rattle.std.proofs.Common.{◌≡◌, ℕ, zero, suc, ◌+◌, ◌-◌, ◌<◌, ◌≤◌, ◌==◌, nat_le, Bool, true, false, cond, List, [], refl, sym, ap, ◌∙◌, arith}
 use Rattle.std.proofs.lemmas.Bool.Decides.{nat_tests}
 use Rattle.rv32_exec.specs.Hart.{epoch_end}
 use Rattle.rv32_exec.specs.declared.stop.Stop.{Stop}
@@ -30,7 +30,7 @@ pub one_step : (image : LoadedImage) (n : ℕ) (h : HartState) (memory : List �
 unfolding after_steps
 one_step image n h memory = refl
 
-no_step : (image : LoadedImage) (h : HartState) (memory : List ℕ) → after_steps image 0 h memory ≡ Runs h memory
+pub no_step : (image : LoadedImage) (h : HartState) (memory : List ℕ) → after_steps image 0 h memory ≡ Runs h memory
 unfolding after_steps
 no_step image h memory = refl
 
@@ -58,11 +58,11 @@ saw : (image : LoadedImage) (h : HartState) (e : Effect) → hart_effect image h
 saw image h (Executes after) is = saw_executes after is
 saw image h (Stops at) is = saw_stops at is
 
-execute-stops : (image : LoadedImage) (h : HartState) (at : Stop) (memory : List ℕ) → hart_effect image h ≡ Stops at → execute image h memory ≡ after_stop h memory at
+pub execute-stops : (image : LoadedImage) (h : HartState) (at : Stop) (memory : List ℕ) → hart_effect image h ≡ Stops at → execute image h memory ≡ after_stop h memory at
 unfolding execute
 execute-stops image h at memory is = rw is refl
 
-execute-executes : (image : LoadedImage) (h after : HartState) (memory : List ℕ) → hart_effect image h ≡ Executes after → execute image h memory ≡ Runs after memory
+pub execute-executes : (image : LoadedImage) (h after : HartState) (memory : List ℕ) → hart_effect image h ≡ Executes after → execute image h memory ≡ Runs after memory
 unfolding execute
 execute-executes image h after memory is = rw is refl
 
@@ -101,6 +101,10 @@ reached image (suc n) h memory some enough =
 pub next_event_reached : (image : LoadedImage) (h : HartState) (memory : List ℕ) → Reaches image h memory (next_event image h)
 unfolding next_event
 next_event_reached image h memory = reached image (image.limit - h.done + 1) h memory (omega arith) (omega arith)
+
+-- it comes no earlier than the hart
+pub later_event : (image : LoadedImage) (h : HartState) → h.done ≤ (next_event image h).now.done
+later_event image h = let counted = (next_event_reached image h []).counted in omega (arith, counted)
 
 -- ---- an epoch stops
 

@@ -93,6 +93,11 @@ lies apart n size a = pick (lies_apart apart a) (nat_lt a size) refl refl
     pick false true e f = Inside e (grind (arith, nat_tests))
     pick false false e f = Past e (grind (arith, nat_tests))
 
+-- a machine's places where this lies apart
+pub place-apart : (machine : Machine) (apart : Apart) (size a : ℕ) → machine.apart ≡ Some apart → place machine size a ≡ place_with apart machine.line_length size a
+unfolding place
+place-apart machine apart size a is = ap (λ (o : Option Apart). place_by o machine.line_length size a) is
+
 at_apart : (apart : Apart) (n size a : ℕ) → lies_apart apart a ≡ true → place_with apart n size a ≡ size + laid apart.piece n (a - apart.first)
 at_apart apart n size a e = rw e refl
 

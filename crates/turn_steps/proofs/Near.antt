@@ -7,9 +7,9 @@ use Rattle.memory_bytes.proofs.SmallFacts.{none_or_some}
 use Rattle.rv32_image.specs.declared.apart.Apart.{Apart}
 use Rattle.rv32_image.specs.declared.machine.Machine.{Machine}
 use Rattle.rv32_image.specs.Machine.{IsMachineFor, is_line_length}
-use Rattle.rv32_image.specs.Places.{FitsApart, behind, lies_apart, place, place_by, place_with}
+use Rattle.rv32_image.specs.Places.{FitsApart, behind, lies_apart, place, place_with}
 use Rattle.rv32_image.proofs.Bounds.{by_length, number_below, number_up, behind_line}
-use Rattle.rv32_image.proofs.Places.{place-none, place-stays, place-inside, place-past, places-whole}
+use Rattle.rv32_image.proofs.Places.{place-apart, place-inside, place-none, place-past, place-stays, places-whole}
 use Rattle.turn_steps.specs.Caches.{LiesIn, first_row}
 
 -- ---- numbers of lines
@@ -27,19 +27,15 @@ short n is = by_length (λ n. n ≤ 64) n is (omega arith) (omega arith) (omega 
 
 -- ---- places
 
-apart_is : (machine : Machine) (apart : Apart) (size a : ℕ) → machine.apart ≡ Some apart → place machine size a ≡ place_with apart machine.line_length size a
-unfolding place
-apart_is machine apart size a is = ap (λ (o : Option Apart). place_by o machine.line_length size a) is
-
 -- a byte that lies apart
 at_apart : (machine : Machine) (apart : Apart) (size a : ℕ) → machine.apart ≡ Some apart → lies_apart apart a ≡ true
     → place machine size a ≡ size + ((a - apart.first) / apart.piece * machine.line_length + (a - apart.first) % apart.piece)
-at_apart machine apart size a is e = apart_is machine apart size a is ∙ (rw e refl)
+at_apart machine apart size a is e = place-apart machine apart size a is ∙ (rw e refl)
 
 at_past : (machine : Machine) (apart : Apart) (size a : ℕ) → machine.apart ≡ Some apart → lies_apart apart a ≡ false → size ≤ a
     → place machine size a ≡ a + behind apart machine.line_length
 at_past machine apart size a is e le =
-    let f : nat_lt a size ≡ false = grind (arith, nat_tests) in apart_is machine apart size a is ∙ (rw (e, f) refl)
+    let f : nat_lt a size ≡ false = grind (arith, nat_tests) in place-apart machine apart size a is ∙ (rw (e, f) refl)
 
 close_pieces : (apart : Apart) (n size a b : ℕ) → FitsApart size n apart → is_line_length n ≡ true → size % n ≡ 0 → apart.first ≤ a → apart.first ≤ b
     → (size + ((a - apart.first) / apart.piece * n + (a - apart.first) % apart.piece)) / n ≡ (size + ((b - apart.first) / apart.piece * n + (b - apart.first) % apart.piece)) / n

@@ -3,7 +3,6 @@ use Rattle.std.proofs.Common.{◌≡◌, ℕ, zero, suc, ◌*◌, ◌/◌, ◌%�
 use Rattle.std.specs.List.{find, range_with_len}
 use Rattle.std.proofs.Math.Nat.{mod-lt, mod-eq_of_lt, mul-div_cancel, div-lt_iff_lt-mul}
 use Rattle.std.proofs.lemmas.Bool.{and_parts, false_from_ne_true, eqb-true}
-use Rattle.std.proofs.lemmas.Bool.Decides.{nat_tests}
 use Rattle.std.proofs.lemmas.Option.{slice_get_cases}
 use Rattle.rv32_image.specs.declared.machine.Machine.{Machine}
 use Rattle.rv32_image.specs.Machine.{IsMachine}
@@ -26,11 +25,9 @@ use Rattle.turn_steps.specs.Caches.{bus_changes, changes, core_changes, held, he
 use Rattle.turn_steps.specs.Places.{Standing, changed, orb_line, way_changes}
 use Rattle.turn_steps.proofs.BusRows.{at_place}
 use Rattle.turn_steps.proofs.Places.{way_changes-same}
+use Rattle.memory_bytes.proofs.SmallFacts.{equal_both}
 
 -- ---- a cache
-
-both : (m n p q : ℕ) → m ≡ n → p ≡ q → ((m == n) && (p == q)) ≡ true
-both m n p q e f = grind (arith, nat_tests)
 
 its_way : (w : ℕ) (o : Option ℕ) → is_way w o ≡ true → o ≡ Some w
 its_way w None e = absurd cc
@@ -82,7 +79,7 @@ module _ (cache : Contents) (placed : IsPlaced cache) (size place : ℕ) (there 
       first_is 0 size stands x (record {
         from = omega arith;
         below = omega (arith, inside x (ap (λ (copy : LineCopy). is_valid copy.state) (copy_at-own cache placed first way way_lt v) ∙ v));
-        passes = ap (λ o. (set_of cache x == set) && is_way way o) (way_at-own cache placed x way way_lt here) ∙ both (set_of cache x) set way way (in_set ∙ set_is) refl;
+        passes = ap (λ o. (set_of cache x == set) && is_way way o) (way_at-own cache placed x way way_lt here) ∙ equal_both (set_of cache x) set way way (in_set ∙ set_is) refl;
         first = λ j _ before. false_from_ne_true (stands j) (λ e. let p = is_copy_of-true line j (is_its j e) in absurd (omega (arith, before, p.1)));
       })
 

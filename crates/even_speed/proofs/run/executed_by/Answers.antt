@@ -3,7 +3,8 @@ use Rattle.rv32_image.specs.Image.{LoadedImage}
 use Rattle.rv32_exec.specs.Arrival.{Arrival}
 use Rattle.rv32_exec.specs.Hart.{HartState}
 use Rattle.rv32_exec.specs.NextEvent.{next_event}
-use Rattle.even_speed.proofs.Events.{came_from, few_to_event, later_event}
+use Rattle.rv32_exec.proofs.LawsOfRuns.{later_event}
+use Rattle.even_speed.proofs.Events.{came_from, few_to_event}
 use Rattle.even_speed.proofs.run.executed_by.Goals as goal
 
 least : (image : LoadedImage) (hart now : HartState) (a : Arrival) (done before : ℕ) → a.now.done ≡ (next_event image hart).now.done → now ≡ a.now → done ≡ now.done → before ≡ hart.done → before ≤ done
