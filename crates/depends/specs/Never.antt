@@ -35,6 +35,13 @@ abbrev pub IsFound : LoadedImage → Grain → ℕ → Option Found → Type 0
 IsFound image grain cores (Some found) = (found.cores ≡ cores) × Conflicts image grain cores
 IsFound image grain cores None = NeverRollsBack image grain cores
 
+-- epochs conflict on cores up to these, and on none below this number
+pub record IsBetween (image : LoadedImage) (grain : Grain) (most : ℕ) (found : Found) (least : ℕ) : Type 0 where
+  pub few : found.cores ≤ most
+  pub low : least ≤ found.cores
+  pub conflicts : Conflicts image grain found.cores
+  pub below : (cores : ℕ) → cores < least → NeverOn image grain cores
+
 -- these cores are the fewest on which epochs conflict; or none do
 abbrev pub IsLeast : LoadedImage → Grain → ℕ → Option Found → Type 0
 IsLeast image grain most (Some found) = (2 ≤ found.cores) × (found.cores ≤ most) × Conflicts image grain found.cores

@@ -1,5 +1,5 @@
 //! From how many cores on epochs conflict.
-ghost use Rattle.std.specs.Prelude.{◌≡◌, ◌≤◌, IfOk};
+ghost use Rattle.std.specs.Prelude.{◌≡◌, ◌≤◌, IfNone, IfOk, IfSome};
 ghost use Rattle.rv32_image.specs.Image.{IsImage};
 ghost use Rattle.dependences.specs.Kept.{AreAll};
 ghost use Rattle.dependences.specs.Nearest.{IsNearest};
@@ -47,7 +47,7 @@ pub fn least_over_bytes(
     if ran == image.epochs() {
         Ok(least_near(image, cores, nearest))
     } else {
-        least_by_halves(alloc, image, Grain::Bytes, cores)
+        least_by_halves(alloc, image, Grain::Bytes, cores, cores)
     }
 }
 
@@ -64,7 +64,8 @@ fn least_near(image: &Image, cores: u32, nearest: Option<u32>) -> Option<Found>
     }
 }
 
-/// Two epochs that conflict over a store of this grain on the fewest cores, by a search on more and fewer cores.
+/// Two epochs that conflict over a store of this grain on the fewest cores, by a search on more and fewer cores. It begins with this
+/// guess.
 ///
 /// `AllocError`: memory ran out.
 pub fn least_by_halves(
@@ -72,15 +73,17 @@ pub fn least_by_halves(
     image: &Image,
     grain: Grain,
     cores: u32,
+    guess: u32,
 ) -> Result<Option<Found>, AllocError>
     requires few { cores ≤ 16 }
+    requires guess { guess ≤ cores }
     ensures { IfOk result (spec.IsLeast image.now grain cores) }
 {
-    let Some(found) = conflict_on(alloc, image, grain, cores)? else {
+    let Some((found, below)) = conflict_from(alloc, image, grain, cores, guess)? else {
         return Ok(None);
     };
     let mut least = found;
-    let mut low = 0;
+    let mut low = below;
     'halves: while low < least.cores {
         let middle = (low + least.cores) / 2;
         match conflict_on(alloc, image, grain, middle)? {
@@ -89,6 +92,33 @@ pub fn least_by_halves(
         }
     }
     Ok(Some(least))
+}
+
+/// Two epochs that conflict on some cores, and a number of cores below which none do. On the guess it looks first.
+///
+/// `AllocError`: memory ran out.
+fn conflict_from(
+    alloc: Global,
+    image: &Image,
+    grain: Grain,
+    cores: u32,
+    guess: u32,
+) -> Result<Option<(Found, u32)>, AllocError>
+    requires few { cores ≤ 16 }
+    requires guess { guess ≤ cores }
+    ensures found { IfOk result (λ it. IfSome it (λ found. spec.IsBetween image.now grain cores found.0 found.1)) }
+    ensures none { IfOk result (λ it. IfNone it (spec.NeverRollsBack image.now grain cores)) }
+{
+    if let Some(found) = conflict_on(alloc, image, grain, guess)? {
+        return Ok(Some((found, 0)));
+    }
+    if guess == cores {
+        return Ok(None);
+    }
+    match conflict_on(alloc, image, grain, cores)? {
+        Some(found) => Ok(Some((found, guess + 1))),
+        None => Ok(None),
+    }
 }
 
 /// Two epochs that conflict on so many cores. None: on these, and on fewer, no schedule has a violation.

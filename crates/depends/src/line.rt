@@ -1,5 +1,5 @@
 //! The line of a store: whether a schedule of so many cores can violate an epoch over it.
-ghost use Rattle.std.specs.Prelude.{◌≡◌, ◌++◌, IfOk, OnOk};
+ghost use Rattle.std.specs.Prelude.{◌≡◌, ◌≤◌, ◌++◌, IfOk, OnOk};
 ghost use Rattle.depends.specs.Line as spec;
 ghost use Rattle.spec_bus.specs.Cached as caches;
 ghost use Rattle.spec_bus.specs.Laws as cache;
@@ -30,14 +30,20 @@ pub enum Line {
     },
 }
 
-/// What is told of the caches on a bus, and up to so many cores.
+/// What is told of the caches on a bus, and up to so many cores. The nearest epochs that depend on each other over bytes are so far
+/// apart: on as many cores as let them run beside each other it looks first.
 ///
 /// `AllocError`: memory ran out.
-pub fn line_over_caches(alloc: Global, on: &LoopOn<'_>) -> Result<Line, AllocError>
+pub fn line_over_caches(
+    alloc: Global,
+    on: &LoopOn<'_>,
+    nearest: Option<u32>,
+) -> Result<Line, AllocError>
     ensures { IfOk result (spec.IsLine cache.Starts cache.Makes caches.store_view caches.waits on.now.image.now Grain.Lines on.now.cores on.now.room) }
 {
     let cores = on.cores;
-    match least_by_halves(alloc, on.image, Grain::Lines, cores)? {
+    let guess = guess_of(cores, nearest);
+    match least_by_halves(alloc, on.image, Grain::Lines, cores, guess)? {
         Some(least) => {
             let on = LoopOn {
                 image: on.image,
@@ -47,6 +53,16 @@ pub fn line_over_caches(alloc: Global, on: &LoopOn<'_>) -> Result<Line, AllocErr
             line_from(alloc, &on, least.later)
         }
         None => Ok(Line::Never),
+    }
+}
+
+/// As many cores as let two epochs run beside each other that are so far apart, but no more than these.
+fn guess_of(cores: u32, nearest: Option<u32>) -> u32
+    ensures { result ≤ cores }
+{
+    match nearest {
+        Some(distance) => cores.min(distance.saturating_add(1)),
+        None => cores,
     }
 }
 
