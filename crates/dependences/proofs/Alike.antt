@@ -10,10 +10,10 @@ use Rattle.memory_bytes.proofs.SmallFacts.{seen_by}
 use Rattle.rv32_image.specs.Image.{LoadedImage}
 use Rattle.rv32_exec.specs.Hart.{HartState, start_of, stepped}
 use Rattle.rv32_exec.specs.Execute.{Effect, Executes, Stops, IsStore, after_load, hart_effect}
-use Rattle.rv32_exec.specs.Sequential.{Progress, Runs, Ends, Faults, after_steps, after_stop, execute, go_on}
+use Rattle.rv32_exec.specs.Sequential.{Progress, Runs, Ends, Faults, after_steps, execute, go_on}
 use Rattle.rv32_exec.specs.Laws.{HasStopped}
 use Rattle.rv32_exec.proofs.Accesses.{stop_of_effect}
-use Rattle.rv32_exec.proofs.LawsOfRuns.{after_steps-+, one_step}
+use Rattle.rv32_exec.proofs.LawsOfRuns.{after_steps-+, execute-executes, execute-stops, one_step}
 use Rattle.spec_history.specs.Laws.{Holds}
 use Rattle.spec_history.proofs.OneEntry.Keeping.{start_runs}
 use Rattle.spec_history.proofs.OneEntry.Accesses.{holds_stored}
@@ -28,14 +28,6 @@ use Rattle.dependences.proofs.SmallFacts.{no_store_at_load}
 one_more : (image : LoadedImage) (n : ℕ) (from : HartState) (memory : List ℕ) (p : Progress) → after_steps image n from memory ≡ p
     → after_steps image (n + 1) from memory ≡ go_on p (after_steps image 1)
 one_more image n from memory p is = after_steps-+ image n 1 from memory ∙ ap (λ q. go_on q (after_steps image 1)) is
-
-executes : (image : LoadedImage) (h after : HartState) (memory : List ℕ) → hart_effect image h ≡ Executes after → execute image h memory ≡ Runs after memory
-unfolding execute
-executes image h after memory is = rw is refl
-
-stops : (image : LoadedImage) (h : HartState) (at : Stop) (memory : List ℕ) → hart_effect image h ≡ Stops at → execute image h memory ≡ after_stop h memory at
-unfolding execute
-stops image h at memory is = rw is refl
 
 one_instruction : (image : LoadedImage) (n : ℕ) (from h : HartState) (memory after : List ℕ) → after_steps image n from memory ≡ Runs h after
     → after_steps image (n + 1) from memory ≡ execute image h after
@@ -88,8 +80,8 @@ module _ (image : LoadedImage) (epoch : ℕ) (first second : List ℕ) (n : ℕ)
   both_execute after is = record {
     after = both.after;
     after' = both.after';
-    runs = one_instruction image n (start_of image epoch) h first both.after both.runs ∙ executes image h after both.after is;
-    runs' = one_instruction image n (start_of image epoch) h second both.after' both.runs' ∙ executes image h after both.after' is;
+    runs = one_instruction image n (start_of image epoch) h first both.after both.runs ∙ execute-executes image h after both.after is;
+    runs' = one_instruction image n (start_of image epoch) h second both.after' both.runs' ∙ execute-executes image h after both.after' is;
     holds = both.holds;
     holds' = both.holds';
     stores = both.stores;
@@ -110,8 +102,8 @@ module _ (image : LoadedImage) (epoch : ℕ) (first second : List ℕ) (n : ℕ)
       let number = number_at_same (λ a. slice_index both.after' a) (λ a. slice_index both.after a) address width bytes in record {
         after = both.after;
         after' = both.after';
-        runs = one_instruction image n (start_of image epoch) h first both.after both.runs ∙ stops image h _ both.after is;
-        runs' = one_instruction image n (start_of image epoch) h second both.after' both.runs' ∙ (stops image h _ both.after' is
+        runs = one_instruction image n (start_of image epoch) h first both.after both.runs ∙ execute-stops image h _ both.after is;
+        runs' = one_instruction image n (start_of image epoch) h second both.after' both.runs' ∙ (execute-stops image h _ both.after' is
             ∙ ap (λ m. Runs (after_load h width signed rd m) both.after') number);
         holds = both.holds;
         holds' = both.holds';
@@ -145,8 +137,8 @@ module _ (image : LoadedImage) (epoch : ℕ) (first second : List ℕ) (n : ℕ)
   both_store address width value is = record {
     after = with_number both.after address width value;
     after' = with_number both.after' address width value;
-    runs = one_instruction image n (start_of image epoch) h first both.after both.runs ∙ stops image h _ both.after is;
-    runs' = one_instruction image n (start_of image epoch) h second both.after' both.runs' ∙ stops image h _ both.after' is;
+    runs = one_instruction image n (start_of image epoch) h first both.after both.runs ∙ execute-stops image h _ both.after is;
+    runs' = one_instruction image n (start_of image epoch) h second both.after' both.runs' ∙ execute-stops image h _ both.after' is;
     holds = store_held first both.after address width value is both.holds;
     holds' = store_held second both.after' address width value is both.holds';
     stores = λ a byte some. stored_or address width value is a byte (either (stored address width value a) (own a) byte some);
@@ -180,9 +172,9 @@ module _ (image : LoadedImage) (epoch : ℕ) (first second : List ℕ) (n : ℕ)
   both_by same (Stops (stop.Load address width signed rd)) is = run_alike _ own (both_load same address width signed rd is)
   both_by same (Stops (stop.Store address width value)) is = run_alike (stepped h) (joined (stored address width value) own) (both_store address width value is)
   both_by same (Stops stop.Ended) is =
-      stop_alike (both_end (Ends h both.after) (Ends h both.after') (stops image h stop.Ended both.after is) (stops image h stop.Ended both.after' is) tt tt (λ g memory end. cc))
+      stop_alike (both_end (Ends h both.after) (Ends h both.after') (execute-stops image h stop.Ended both.after is) (execute-stops image h stop.Ended both.after' is) tt tt (λ g memory end. cc))
   both_by same (Stops (stop.Fault cause pc)) is =
-      stop_alike (both_end (Faults cause pc both.after) (Faults cause pc both.after') (stops image h _ both.after is) (stops image h _ both.after' is) tt tt
+      stop_alike (both_end (Faults cause pc both.after) (Faults cause pc both.after') (execute-stops image h _ both.after is) (execute-stops image h _ both.after' is) tt tt
       (λ g memory end. absurd cc))
 
 stays_stopped : (image : LoadedImage) (p : Progress) → HasStopped p → go_on p (after_steps image 1) ≡ p

@@ -14,6 +14,7 @@ use Rattle.rv32_exec.specs.NextEvent.{next_event}
 use Rattle.rv32_exec.specs.Arrival.{after_number}
 use Rattle.rv32_exec.specs.Sequential.{SequentialResult, after_stop, first_epochs}
 use Rattle.rv32_exec.specs.Laws.{HasStopped}
+use Rattle.rv32_exec.proofs.LawsOfRuns.{later_event}
 use Rattle.spec_history.proofs.OneEntry.Accesses.{load_counts}
 use Rattle.dependences.specs.declared.flow.Dependence.{Dependence}
 use Rattle.dependences.specs.Paths.{LoadsAt, ReadsOutside, StoresAt}
@@ -24,7 +25,7 @@ use Rattle.dependences.specs.Kept.{AreAll}
 use Rattle.dependences.specs.KeptStores.{AreBefore, AreMarked, IsNearest, IsNearestByte, IsNoted, IsStoredLast, Stores, AreStoresKept, dependence_of, noted}
 use Rattle.dependences.specs.KeptRun.{Flowing, IsAt, IsMine}
 use Rattle.dependences.proofs.Paths.{access_stops, at_start, before_event, covered, either, load_after, load_hart, loads_there, neither, past_load, past_store, same_store, start_after, store_after, store_hart, stores_there}
-use Rattle.dependences.proofs.Following.{all_loaded, all_stored_early, hart_before, hart_there, load_late, no_both, store_late, unmarked}
+use Rattle.dependences.proofs.Following.{all_loaded, all_stored_early, hart_there, load_late, no_both, store_late, unmarked}
 use Rattle.dependences.proofs.Outside.{OnPath, read_by_load, read_by_store, seen_now}
 
 -- ---- lists that grow at the end
@@ -231,17 +232,17 @@ module _ (image : LoadedImage) (epoch : ℕ) (memory : List ℕ) (s : Stores) (h
         load_pc = sym (ap (λ (g : HartState). g.pc) (load_hart image epoch (memory_before image epoch) h x.own x.at address width signed rd byte is near.from near.below));
         store_pc = last.1;
         nearest = λ byte' d step depends. nearest_by address width byte byte' d near
-            (here_by address width signed rd (next_event image h).now.done byte' d step is (hart_before image h) (omega arith) depends);
+            (here_by address width signed rd (next_event image h).now.done byte' d step is (later_event image h) (omega arith) depends);
       }
 
   list_by : (address width : ℕ) (signed : Bool) (rd : ℕ) (list' : List Dependence) → (next_event image h).at ≡ stop.Load address width signed rd
       → (byte : Option ℕ) → IsNearestByte s.writers epoch address width byte → list' ≡ noted s epoch (next_event image h).now byte list
       → AreBefore image epoch ((next_event image h).now.done + 1) list'
   list_by address width signed rd list' is None near same =
-      let later = hart_before image h in
+      let later = later_event image h in
       rw same (still_before image epoch h.done ((next_event image h).now.done + 1) list (omega (arith, later)) x.list (none_here address width signed rd is near))
   list_by address width signed rd list' is (Some byte) near same =
-      rw same (one_more_before image epoch h.done (next_event image h).now.done list (dependence_of s epoch (next_event image h).now byte) (hart_before image h) x.list
+      rw same (one_more_before image epoch h.done (next_event image h).now.done list (dependence_of s epoch (next_event image h).now byte) (later_event image h) x.list
       (is_dependence address width signed rd byte is near) refl refl
       (λ loaded byte' d step from low depends. at_event loaded byte' d step address width signed rd is from low depends))
 
@@ -259,7 +260,7 @@ module _ (image : LoadedImage) (epoch : ℕ) (memory : List ℕ) (s : Stores) (h
   flowing_load address width signed rd value list' is number note =
       let seen = seen_now image epoch (memory_before image epoch) memory h x.own x.at x.is address width value number in
       let count = load_counts image h address width signed rd value is in
-      let later = hart_before image h in record {
+      let later = later_event image h in record {
         own = x.own;
         at = past_load image epoch (memory_before image epoch) h x.own address width signed rd value x.at is seen;
         is = load_after image epoch (memory_before image epoch) h x.own address width signed rd value x.at is seen ∙ x.is;
@@ -303,7 +304,7 @@ module _ (image : LoadedImage) (epoch : ℕ) (memory : List ℕ) (s : Stores) (h
       (stored_there image epoch h x.own x.at address width value a _ _ is within (marked.writers.here a within.0 within.1) (marked.pcs.here a within.0 within.1))
   mine_by s' address width value a byte is marked None now (inl some) = let one = some.1 in absurd cc
   mine_by s' address width value a byte is marked None now (inr before) =
-      let later = hart_before image h in
+      let later = later_event image h in
       rw (
         unmarked s.writers s'.writers address width _ value a marked.writers now,
         unmarked s.steps s'.steps address width _ value a marked.steps now,
@@ -322,7 +323,7 @@ module _ (image : LoadedImage) (epoch : ℕ) (memory : List ℕ) (s : Stores) (h
       → AreMarked s s' address width (epoch + 1) (next_event image h).now.done (next_event image h).now.pc
       → Flowing image epoch (with_number memory address width value) s' (stepped (next_event image h).now) list
   flowing_store s' address width value is marked =
-      let later = hart_before image h in record {
+      let later = later_event image h in record {
         own = joined (stored address width value) x.own;
         at = past_store image epoch (memory_before image epoch) h x.own address width value x.at is;
         is = store_after image epoch (memory_before image epoch) h x.own address width value x.at is ∙ ap (λ m. with_number m address width value) x.is;

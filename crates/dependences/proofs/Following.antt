@@ -1,5 +1,5 @@
 -- One epoch in order: what is kept while it runs, and when it ends.
-use Rattle.std.proofs.Common.{◌≡◌, ◌≢◌, ◌⊎◌, ℕ, zero, suc, ◌+◌, ◌-◌, ◌<◌, ◌≤◌, Bool, List, [], length, slice_index, Option, Some, None, refl, sym, ap, subst, ◌∙◌, inl, inr, arith, add-one}
+use Rattle.std.proofs.Common.{◌≡◌, ◌≢◌, ◌⊎◌, ℕ, zero, suc, ◌+◌, ◌-◌, ◌<◌, ◌≤◌, Bool, List, length, slice_index, Option, Some, None, refl, sym, ap, subst, ◌∙◌, inl, inr, arith, add-one}
 use Rattle.std.proofs.lemmas.Bool.{cases_eq, cases_lt}
 use Rattle.rv32_image.specs.Image.{LoadedImage}
 use Rattle.memory_bytes.specs.Bytes.{number_at, with_number}
@@ -14,7 +14,7 @@ use Rattle.rv32_exec.specs.NextEvent.{next_event}
 use Rattle.rv32_exec.specs.Arrival.{after_number}
 use Rattle.rv32_exec.specs.Sequential.{Progress, SequentialResult, Runs, Ends, Faults, after_steps, after_stop, execute, first_epochs, go_on}
 use Rattle.rv32_exec.specs.Laws.{HasStopped}
-use Rattle.rv32_exec.proofs.LawsOfRuns.{Accesses, after_steps-+, next_event_reached, one_step}
+use Rattle.rv32_exec.proofs.LawsOfRuns.{Accesses, after_steps-+, execute-stops, later_event, one_step}
 use Rattle.spec_history.proofs.OneEntry.Accesses.{load_counts}
 use Rattle.spec_history.proofs.OneEntry.Progress.{event_does, no_steps}
 use Rattle.dependences.specs.Paths.{LoadsAt, Stores, StoresAt}
@@ -92,18 +92,11 @@ module _ (image : LoadedImage) (epoch : ℕ) (memory : List ℕ) (h : HartState)
     | inr past ↦ past
   ]
 
-pub hart_before : (image : LoadedImage) (h : HartState) → h.done ≤ (next_event image h).now.done
-hart_before image h = let counted = (next_event_reached image h []).counted in omega (arith, counted)
-
 -- what has stopped does not run on
 pub stays : (image : LoadedImage) (n : ℕ) (p : Progress) (g : HartState) (memory : List ℕ) → HasStopped p → go_on p (after_steps image n) ≡ Runs g memory → ⊥
 stays image n (Runs h m) g memory stopped is = stopped
 stays image n (Ends h m) g memory stopped is = cc
 stays image n (Faults cause pc m) g memory stopped is = cc
-
-executes : (image : LoadedImage) (h : HartState) (at : Stop) (memory : List ℕ) → hart_effect image h ≡ Stops at → execute image h memory ≡ after_stop h memory at
-unfolding execute
-executes image h at memory is = rw is refl
 
 accesses_run : (h : HartState) (memory : List ℕ) (s : Stop) → Accesses s → HasStopped (after_stop h memory s) → ⊥
 accesses_run h memory (stop.Load address width signed rd) access stopped = stopped
@@ -117,7 +110,7 @@ stopped_by : (image : LoadedImage) (h g : HartState) (memory after : List ℕ) (
 stopped_by image h g memory after p s does stopped access zero runs stops =
     let same = no_steps image h g memory after runs in
     let here : hart_effect image h ≡ Stops s = ap (hart_effect image) same ∙ stops in
-    accesses_run h memory s access (rw (sym does ∙ executes image h s memory here) at stopped)
+    accesses_run h memory s access (rw (sym does ∙ execute-stops image h s memory here) at stopped)
 stopped_by image h g memory after p s does stopped access (suc j) runs stops =
     stays image j p g after stopped (sym (one_step image j h memory ∙ ap (λ q. go_on q (after_steps image j)) does) ∙ runs)
 
@@ -248,7 +241,7 @@ module _ (image : LoadedImage) (epoch : ℕ) (memory writers : List ℕ) (h : Ha
       let own = number_at_same (over x.own (λ a. slice_index (memory_before image epoch) a)) (λ a. slice_index memory a) address width
       (λ a low high. x.at.holds.bytes a ∙ ap (λ m. slice_index m a) x.is) ∙ number in
       let count = load_counts image h address width signed rd value is in
-      let later = hart_before image h in record {
+      let later = later_event image h in record {
         own = x.own;
         at = past_load image epoch (memory_before image epoch) h x.own address width signed rd value x.at is own;
         is = load_after image epoch (memory_before image epoch) h x.own address width signed rd value x.at is own ∙ x.is;
@@ -309,7 +302,7 @@ module _ (image : LoadedImage) (epoch : ℕ) (memory writers : List ℕ) (h : Ha
     others = λ a none. let parts = neither (stored address width value a) (x.own a) none in
         subst (λ w. IsLastWriter image epoch a w) (sym (unmarked writers writers' address width (epoch + 1) value a marked parts.0)) (x.others a parts.1);
     least = least_so (DependsUpTo image epoch h.done) (DependsUpTo image epoch ((next_event image h).now.done + 1))
-        (λ k y. let later = hart_before image h in widen image epoch h.done ((next_event image h).now.done + 1) k (omega (arith, later)) y)
+        (λ k y. let later = later_event image h in widen image epoch h.done ((next_event image h).now.done + 1) k (omega (arith, later)) y)
         (λ k y. store_back address width value k is y) nearest x.least;
   }
 

@@ -1,5 +1,5 @@
 -- Sums of dependences by pairs of instructions.
-use Rattle.std.proofs.Common.{◌≡◌, ℕ, ◌+◌, ◌≤◌, ◌==◌, ◌&&◌, Bool, true, false, cond, nat_lt, List, [], ◌∷◌, ◌++◌, length, Option, Some, None, refl, sym, ap, ◌∙◌, arith, eqb-true}
+use Rattle.std.proofs.Common.{◌≡◌, ℕ, ◌==◌, ◌&&◌, Bool, true, false, cond, nat_lt, List, [], ◌∷◌, ◌++◌, Option, None, refl, sym, ap, ◌∙◌, eqb-true}
 use Rattle.std.proofs.lemmas.Bool.{and_parts}
 use Rattle.std.specs.Ordering.{is_eq, nat_cmp}
 use Rattle.memory_bytes.proofs.SmallFacts.{is_eq_by_tests, is_eq_then, less_apart}
@@ -38,24 +38,3 @@ sums_more store load before after x old new was all updated before_it now =
     updated ∙ (ap (λ b. cond b (sum_with was x) old) (at_pcs store load x)
     ∙ (more_by store load before x old was (joins store load x) refl before_it now
     ∙ (sym (sum_after_more store load None before x) ∙ ap (pair_sum store load) (sym all))))
-
--- ---- how many
-
-some_times : (x : Dependence) (sum : Option PairSum) (n : ℕ) → ((s : PairSum) → sum ≡ Some s → s.times ≤ n) → (s : PairSum) → sum_with sum x ≡ Some s → s.times ≤ n + 1
-some_times x None n most s is = let one : 1 ≡ s.times = cc in omega (arith, one)
-some_times x (Some t) n most s is = let more : t.times + 1 ≡ s.times = cc in let low = most t refl in omega (arith, more, low)
-
-cond_times : (b : Bool) (x : Dependence) (sum : Option PairSum) (n : ℕ) → ((s : PairSum) → sum ≡ Some s → s.times ≤ n) → (s : PairSum)
-    → cond b (sum_with sum x) sum ≡ Some s → s.times ≤ n + 1
-cond_times true x sum n most s is = some_times x sum n most s is
-cond_times false x sum n most s is = let low = most s is in omega (arith, low)
-
-times_after : (store load : ℕ) (sum : Option PairSum) (xs : List Dependence) (n : ℕ) → ((s : PairSum) → sum ≡ Some s → s.times ≤ n) → (s : PairSum)
-    → sum_after store load sum xs ≡ Some s → s.times ≤ n + length xs
-times_after store load sum [] n most s is = let low = most s is in omega (arith, low)
-times_after store load sum (x ∷ rest) n most s is =
-    let low = times_after store load (cond (joins store load x) (sum_with sum x) sum) rest (n + 1) (cond_times (joins store load x) x sum n most) s is in omega (arith, low)
-
--- no more than dependences
-pub times_low : (store load : ℕ) (xs : List Dependence) (s : PairSum) → pair_sum store load xs ≡ Some s → s.times ≤ length xs
-times_low store load xs s is = let low = times_after store load None xs 0 (λ t none. absurd cc) s is in omega (arith, low)

@@ -39,6 +39,7 @@ mod Counting
 mod Sharing
 pub mod Buffering
 pub mod Watching
+mod AtHand
 pub mod Caching
 pub mod Words
 -- What no conflict says of histories.

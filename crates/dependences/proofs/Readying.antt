@@ -1,5 +1,5 @@
 -- Sums of dependences by pairs of instructions, of which a few are at hand.
-use Rattle.std.proofs.Common.{◌≡◌, ◌≢◌, ◌⊎◌, ℕ, ◌+◌, ◌<◌, ◌≤◌, ◌==◌, ◌&&◌, Bool, true, false, cond, List, length, set, slice_index_or, Option, Some, None, refl, sym, ap, subst, ◌∙◌, inl, inr, arith, eqb-true, eq-eqb, get_or-set_same, get_or-set_other, length-set}
+use Rattle.std.proofs.Common.{◌≡◌, ◌≢◌, ◌⊎◌, ℕ, ◌+◌, ◌<◌, ◌≤◌, ◌==◌, ◌&&◌, Bool, true, false, cond, List, length, set, slice_index_or, Option, Some, None, refl, sym, ap, subst, ◌∙◌, inl, inr, arith, eqb-true, get_or-set_same, get_or-set_other, length-set}
 use Rattle.std.proofs.lemmas.Bool.{and_parts, cases_eq}
 use Rattle.std.proofs.lemmas.Option.{slice_get-get_or}
 use Rattle.std.specs.BTreeMap.{BTreeMap, get}
@@ -7,19 +7,13 @@ use Rattle.std.specs.Ordering.{is_eq}
 use Rattle.dependences.specs.declared.flow.Dependence.{Dependence}
 use Rattle.dependences.specs.declared.pairs.PairSum.{PairSum}
 use Rattle.dependences.specs.declared.pairs.Ready.{Ready}
-use Rattle.dependences.specs.Pairs.{by_pcs, joins, sum_more, sum_with}
+use Rattle.dependences.specs.Pairs.{by_pcs, joins, sum_with}
 use Rattle.dependences.specs.KeptPairs.{AreAtHome, at_hand, kept_sum, slot, sum_or}
 use Rattle.dependences.proofs.Joining.{at_pcs}
 
 -- the sum of these two instructions
 abbrev pub row : Dependence → PairSum → Ready
 row x sum = record { store = x.store_pc; load = x.load_pc; sum = sum }
-
-both_so : (a b c d : ℕ) → a ≡ b → c ≡ d → ((a == b) && (c == d)) ≡ true
-both_so a b c d first second = rw (eq-eqb a b first, eq-eqb c d second) refl
-
-own_row : (x : Dependence) (sum : PairSum) → at_hand (Some (row x sum)) x.store_pc x.load_pc ≡ Some sum
-own_row x sum = rw (both_so x.store_pc x.store_pc x.load_pc x.load_pc refl refl) refl
 
 -- what stands at a place is of no load that is looked for elsewhere
 not_there : (ready : List (Option Ready)) (place store load : ℕ) → AreAtHome ready → slot load ≢ place → at_hand (slice_index_or ready place None) store load ≡ None
@@ -94,27 +88,6 @@ module _ (ready : List (Option Ready)) (old new : BTreeMap (ℕ × ℕ) PairSum)
       added_by store load (joins store load x) (kept_sum ready old x.store_pc x.load_pc) refl (rw none more) puts
       ∙ ap (λ b. cond b (sum_with (kept_sum ready old x.store_pc x.load_pc) x) (kept_sum ready old store load)) (sym (at_pcs store load x))
 
--- it was at hand, and has one more
-pub counted_ready : (ready : List (Option Ready)) (sums : BTreeMap (ℕ × ℕ) PairSum) (x : Dependence) (was : PairSum) → AreAtHome ready → slice_index_or ready (slot x.load_pc) None ≡ Some (row x was)
-    → (store load : ℕ) → kept_sum (set ready (slot x.load_pc) (Some (row x (sum_more was x)))) sums store load
-    ≡ cond (is_eq (by_pcs (x.store_pc, x.load_pc) (store, load))) (sum_with (kept_sum ready sums x.store_pc x.load_pc) x) (kept_sum ready sums store load)
-counted_ready ready sums x was home at store load =
-    by_joins (joins store load x) refl ∙ ap (λ b. cond b (sum_with (kept_sum ready sums x.store_pc x.load_pc) x) (kept_sum ready sums store load)) (sym (at_pcs store load x))
-  where
-    own : kept_sum ready sums x.store_pc x.load_pc ≡ Some was
-    own = rw (at, own_row x was) refl
-
-    by_slot : joins store load x ≡ false → kept_sum (set ready (slot x.load_pc) (Some (row x (sum_more was x)))) sums store load ≡ kept_sum ready sums store load
-    by_slot other = elim (cases_eq (slot load) (slot x.load_pc)) [
-      | inl is ↦ of_slot ready sums sums x (sum_more was x) home store load other is ∙ sym (rw (is, at, other) refl)
-      | inr apart ↦ rw (there ready sums sums x (sum_more was x) home load apart) refl
-    ]
-
-    by_joins : (b : Bool) → joins store load x ≡ b
-        → kept_sum (set ready (slot x.load_pc) (Some (row x (sum_more was x)))) sums store load ≡ cond b (sum_with (kept_sum ready sums x.store_pc x.load_pc) x) (kept_sum ready sums store load)
-    by_joins true is = of_pair ready sums sums x (sum_more was x) home store load is ∙ rw own refl
-    by_joins false is = by_slot is
-
 -- what stands at a place within the list, whatever stands past it
 at_place : (ready : List (Option Ready)) (place : ℕ) (o : Option Ready) → place < length ready → o ≡ slice_index_or ready place o → slice_index_or ready place None ≡ o
 at_place ready place o within is =
@@ -124,16 +97,6 @@ at_place ready place o within is =
 pub looked_at : (ready : List (Option Ready)) (place load : ℕ) (o : Option Ready) → AreAtHome ready → place ≡ slot load → place < 256 → o ≡ slice_index_or ready place o
     → slice_index_or ready (slot load) None ≡ o
 looked_at ready place load o home is few value = subst (λ p. slice_index_or ready p None ≡ o) is (at_place ready place o (rw home.long few) value)
-
--- the pair of the dependence is there
-pub row_there : (ready : List (Option Ready)) (x : Dependence) (one : Ready) → slice_index_or ready (slot x.load_pc) None ≡ Some one → one.store ≡ x.store_pc → one.load ≡ x.load_pc
-    → slice_index_or ready (slot x.load_pc) None ≡ Some (row x one.sum)
-row_there ready x one at first second =
-    at ∙ (ap (λ n. let r : Ready = record { store = n; load = one.load; sum = one.sum } in Some r) first ∙ ap (λ n. let r : Ready = record { store = x.store_pc; load = n; sum = one.sum } in Some r) second)
-
-pub sum_there : (ready : List (Option Ready)) (sums : BTreeMap (ℕ × ℕ) PairSum) (x : Dependence) (sum : PairSum) → slice_index_or ready (slot x.load_pc) None ≡ Some (row x sum)
-    → kept_sum ready sums x.store_pc x.load_pc ≡ Some sum
-sum_there ready sums x sum at = rw (at, own_row x sum) refl
 
 -- the one at hand is of another pair
 pub not_ready : (ready : List (Option Ready)) (x : Dependence) (o : Option Ready) → slice_index_or ready (slot x.load_pc) None ≡ o

@@ -91,7 +91,7 @@ module _ (image : LoadedImage) (watch : Watch) (h : HartState) (memory : List �
 
   -- it meets a line of an epoch beside it
   pub met_now : MeetsLine image watch.lines watch.epoch (first_beside watch.cores watch.epoch) address width → (after : HartState) (memory' : List ℕ)
-      → IsWatched image (record { cores = watch.cores; epoch = watch.epoch; lines = watch.lines; touches = watch.touches; has_met = true }) after memory'
+      → IsWatched image (record { cores = watch.cores; epoch = watch.epoch; lines = watch.lines; touches = watch.touches; has_met = true; quiet = watch.quiet; stored = watch.stored }) after memory'
   met_now meets after memory' =
       let k = x.kept none in
       let is = ap (λ (e : Event). e.at) (comes image watch h memory _ k stops) in

@@ -10,7 +10,7 @@ use Rattle.dependences.specs.declared.last_stores.LastStore.{LastStore}
 use Rattle.dependences.specs.declared.word_stores.Word.{Word}
 use Rattle.dependences.specs.declared.word_stores.Word.TheVariants.{Untouched, Whole, Bytes}
 use Rattle.std.proofs.Math.ListN.{get_or, get_or-map}
-use Rattle.std.proofs.lemmas.List.{get_or-set_same, get_or-set_other, length-map, length-replicate, length-set}
+use Rattle.std.proofs.lemmas.List.{get_or-set_same, get_or-set_other, length-map, length-replicate, length-set, map-set}
 use Rattle.dependences.specs.Kept.{IsMarked, nearer}
 use Rattle.dependences.specs.KeptMarks.{filled}
 use Rattle.dependences.specs.KeptStores.{AreMarked, IsNearestByte, Stores, dependence_at}
@@ -19,7 +19,7 @@ use Rattle.dependences.specs.KeptLast.{AreLast, IsLast, dependence_by}
 use Rattle.dependences.specs.KeptRun.{IsLoadKept}
 use Rattle.dependences.specs.Nearest.{IsNearestLater}
 use Rattle.dependences.proofs.Marking.{none_after}
-use Rattle.dependences.specs.KeptWords.{AreSpread, AreWords, IsPut, last_of, last_stores, listed, of_byte, of_bytes, word_at}
+use Rattle.dependences.specs.KeptWords.{AreSpread, AreWords, IsPut, last_of, last_stores, listed, of_byte, of_bytes, word_at, word_of, words_of}
 
 -- ---- the list of all bytes
 
@@ -279,6 +279,19 @@ filled_put old mid count word by same within = record {
   here = filled_word (set mid word by) count word ∙ get_or-set_same mid word by Untouched within;
   others = λ k other. filled_word (set mid word by) count k ∙ (get_or-set_other mid word k by Untouched other ∙ (same k ∙ sym (filled_word old count k)));
 }
+
+-- a word is what its store stands for
+word_kept : (stores : List StoredBy) (k : ℕ) → word_at (map word_of stores) k ≡ word_of (store_at stores k)
+word_kept stores k = get_or-map word_of stores k no_store
+
+pub word_there : (stores : List StoredBy) (count k : ℕ) → word_at (words_of stores count) k ≡ word_of (store_at stores k)
+word_there stores count k = filled_word (map word_of stores) count k ∙ word_kept stores k
+
+pub kept_put : (old mid : List StoredBy) (count word : ℕ) (by : StoredBy) (w : Word) → word_of by ≡ w → ((k : ℕ) → store_at mid k ≡ store_at old k) → word < length mid
+    → IsPut (words_of old count) (words_of (set mid word by) count) word w
+kept_put old mid count word by w is same within =
+    subst (λ (l : List Word). IsPut (words_of old count) (filled Untouched l count) word w) (sym (map-set word_of mid word by ∙ ap (set (map word_of mid) word) is))
+    (filled_put (map word_of old) (map word_of mid) count word w (λ k. word_kept mid k ∙ (ap word_of (same k) ∙ sym (word_kept old k))) (rw (length-map mid word_of) within))
 
 -- ---- stores beside bytes, made up to the highest that is stored
 

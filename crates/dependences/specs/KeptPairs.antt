@@ -38,6 +38,5 @@ IsAdded old new x = (store load : ℕ) → kept_sum new.ready.items new.sums sto
 
 -- the sums are those of these dependences
 pub record ArePairSums (s : PairSums) (list : List Dependence) : Type 0 where
-  pub count : s.count ≡ length list
   pub home : AreAtHome s.ready.items
   pub each : (store load : ℕ) → kept_sum s.ready.items s.sums store load ≡ pair_sum store load list

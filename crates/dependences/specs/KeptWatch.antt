@@ -52,6 +52,23 @@ pub record InBuffers (image : LoadedImage) (cores epoch : ℕ) (memory now : Lis
   pub noted : (line : ℕ) → slice_index t.stored line ≡ epoch + 1 → (a : ℕ) × (byte : ℕ) × (line_number image a ≡ line) × (stored a ≡ Some byte)
   pub all : (a byte : ℕ) → stored a ≡ Some byte → slice_index t.stored (line_number image a) ≡ epoch + 1
 
+-- ---- lines at hand
+
+-- a load of the epoch in this line changes nothing: the epoch touches it, and no epoch beside it stores in it
+pub record IsQuiet (watch : Watch) (line : ℕ) : Type 0 where
+  pub touched : slice_index watch.touches.two.last line ≡ watch.epoch + 1
+  pub alone : other_before watch.lines.two watch.epoch line ≤ first_beside watch.cores watch.epoch
+
+-- the epoch stores in this line
+pub record IsStoredIn (watch : Watch) (line : ℕ) : Type 0 where
+  pub last : slice_index watch.lines.two.last line ≡ watch.epoch + 1
+  pub touched : slice_index watch.touches.two.last line ≡ watch.epoch + 1
+  pub stored : slice_index watch.touches.stored line ≡ watch.epoch + 1
+
+pub record AreAtHand (watch : Watch) : Type 0 where
+  pub quiet : (line : ℕ) → watch.quiet ≡ line + 1 → IsQuiet watch line
+  pub stored : (line : ℕ) → watch.stored ≡ line + 1 → IsStoredIn watch line
+
 -- ---- between epochs
 
 -- it is kept what the epochs before this one did

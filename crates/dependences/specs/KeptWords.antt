@@ -1,13 +1,28 @@
 -- What the code keeps of the last stores of aligned words.
-use Rattle.std.specs.Prelude.{◌≡◌, ℕ, zero, suc, ◌*◌, ◌/◌, List, [], ◌∷◌, length, slice_index, slice_index_or}
+use Rattle.std.specs.Prelude.{◌≡◌, ℕ, zero, suc, ◌*◌, ◌/◌, ◌==◌, ◌<◌, List, [], ◌∷◌, length, map, slice_index, slice_index_or, if◌then◌else◌}
 use Rattle.dependences.specs.declared.byte_stores.StoredBy.{StoredBy}
 use Rattle.dependences.specs.declared.word_stores.Word.{Word}
 use Rattle.dependences.specs.declared.word_stores.Word.TheVariants.{Untouched, Whole, Bytes}
+use Rattle.dependences.specs.KeptMarks.{filled}
 use Rattle.dependences.specs.KeptStores.{Stores}
 
 -- by what the word of this number was stored last
 abbrev pub word_at : List Word → ℕ → Word
 word_at words k = slice_index_or words k Untouched
+
+-- the word that is kept as this store
+abbrev pub word_of : StoredBy → Word
+word_of by = if by.writer == 0 then Untouched else (if by.writer == 4294967295 then Bytes else Whole by)
+
+-- the words that are kept so, of so many
+abbrev pub words_of : List StoredBy → ℕ → List Word
+words_of stores count = filled Untouched (map word_of stores) count
+
+-- a word can be kept so
+abbrev pub IsKept : Word → Type 0
+IsKept Untouched = Unit {0}
+IsKept (Whole by) = (0 < by.writer) × (by.writer < 4294967295)
+IsKept Bytes = Unit {0}
 
 -- this word was stored last by this now, and the others as before
 pub record IsPut (old new : List Word) (word : ℕ) (by : Word) : Type 0 where

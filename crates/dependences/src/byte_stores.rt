@@ -21,7 +21,9 @@ impl StoredBy {
     /// The store of an epoch at this pc, after so many instructions.
     #[inline(always)]
     pub(crate) fn new(epoch: Epoch, step: u32, pc: u32) -> StoredBy
-        ensures { result ≡ record { writer = epoch + 1; step = step; pc = pc } }
+        ensures is { result ≡ record { writer = epoch + 1; step = step; pc = pc } }
+        ensures some { 0 < result.writer }
+        ensures small { result.writer < 4294967295 }
     {
         StoredBy {
             writer: epoch.note(),
@@ -108,7 +110,7 @@ const STEP: usize = 4096;
 
 /// Makes stores up to this byte, of so many for which there is room.
 #[inline(always)]
-fn reach(stores: &mut Vec<StoredBy>, at: usize, size: usize)
+pub(crate) fn reach(stores: &mut Vec<StoredBy>, at: usize, size: usize)
     requires at { at < size }
     requires room { size ≤ vec_capacity stores.old }
     requires within { length stores.old.items ≤ size }

@@ -54,12 +54,16 @@ struct Watch {
     touches: Touches,
     /// The epoch has read a byte from outside in a line in which an epoch beside it has stored. Nothing is noted since.
     has_met: bool,
+    /// The line at hand for loads, and 1, or 0 for none: there a load of the epoch changes nothing.
+    quiet: u32,
+    /// The line at hand for stores, and 1, or 0 for none: there a store of the epoch changes who stored its bytes, and nothing else.
+    stored: u32,
 }
 
 impl Notes for Watch {
-    ghost use Rattle.dependences.specs.KeptWatch.{IsWatched};
+    ghost use Rattle.dependences.specs.KeptWatch.{AreAtHand, IsWatched};
 
-    ghost right = { IsWatched };
+    ghost right = { λ image watch h memory. IsWatched image watch h memory × AreAtHand watch };
 
     ghost fixed = { λ watch. watch.cores ∷ watch.epoch ∷ [] };
 
@@ -70,17 +74,19 @@ impl Notes for Watch {
         if self.has_met {
             return;
         }
+        let line = line_of(image, addr);
+        if self.quiet == line + 1 {
+            return;
+        }
         let epoch = self.epoch.number();
         let first = first_beside(self.cores, epoch);
-        let line = line_of(image, addr);
-        if self
-            .lines
-            .meets(image, line, self.epoch, first, addr, width)
-        {
+        let look = self.lines.look(image, line, self.epoch, first, addr, width);
+        if look.meets {
             self.has_met = true;
             return;
         }
         self.touches.touch(image, self.cores, epoch, line);
+        self.quiet = look.quiet;
     }
 
     #[inline(always)]
@@ -88,11 +94,16 @@ impl Notes for Watch {
         if self.has_met {
             return;
         }
-        let epoch = self.epoch.number();
         let line = line_of(image, addr);
+        if self.stored == line + 1 {
+            self.lines.store_again(image, line, self.epoch, addr, width);
+            return;
+        }
+        let epoch = self.epoch.number();
         self.lines.store(image, line, self.epoch, addr, width);
         self.touches.touch(image, self.cores, epoch, line);
         self.touches.store(image, self.cores, epoch, line);
+        self.stored = line + 1;
     }
 }
 
@@ -125,6 +136,8 @@ pub fn conflict_over_caches(
         lines: Lines::none(alloc, image)?,
         touches: Touches::none(alloc, image)?,
         has_met: false,
+        quiet: 0,
+        stored: 0,
     };
     let ran = conflict_in_order(image, cores, memory.as_mut_slice(), &mut watch);
     if ran.found.is_some() {
@@ -240,6 +253,8 @@ fn conflict_of(
 {
     watch.epoch = Epoch::of(epoch);
     watch.has_met = false;
+    watch.quiet = 0;
+    watch.stored = 0;
     let mut hart = start(image, epoch);
     let at = hart.run_to_end(image, memory, watch);
     if watch.has_met {

@@ -135,7 +135,8 @@ pub(crate) trait Found: Drop {
     ///
     /// `NoMemory`: there was none for it.
     fn add(&mut self, one: Dependence) -> Result<(), NoMemory>
-        requires { (list : List Dependence) × keeps self.old list }
+        requires order { one.earlier ≤ one.later }
+        requires kept { (list : List Dependence) × keeps self.old list }
         ensures { OnOk result ((list : List Dependence) → keeps self.old list → keeps self.new (list ++ one ∷ [])) };
 }
 

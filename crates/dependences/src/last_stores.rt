@@ -62,10 +62,15 @@ impl LastStores {
         requires within { addr + width ≤ length self.now.writers }
         ensures { AreLast self.now addr width result }
     {
-        if width == 1 {
-            return Word::Whole(self.stored_by(addr));
+        match self.words.at(addr / 4) {
+            Word::Bytes => {
+                if width == 1 {
+                    return Word::Whole(self.bytes.at(addr));
+                }
+                Word::Bytes
+            }
+            word => word,
         }
-        self.words.at(addr / 4)
     }
 
     /// Of the bytes of a load whose last writer is an epoch before this one, the first of the latest such epoch.

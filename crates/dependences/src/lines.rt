@@ -1,4 +1,4 @@
-ghost use Rattle.std.specs.Prelude.{◌≡◌, ℕ, ◌+◌, ◌<◌, IfOk, true, false, length};
+ghost use Rattle.std.specs.Prelude.{◌≡◌, ℕ, ◌+◌, ◌<◌, ◌≤◌, ◌^◌, IfOk, true, false, length, slice_index};
 ghost use Rattle.rv32_image.specs.Image.{IsImage};
 ghost use Rattle.spec_history.specs.Conflict.{line_count, line_number};
 ghost use Rattle.dependences.specs.KeptLines as spec;
@@ -10,6 +10,14 @@ use rv32_exec::NoMemory;
 use rv32_image::Image;
 use std::alloc::Global;
 use std::marker::Model;
+
+/// What a load meets: whether a byte that the epoch has not stored, in a line in which an epoch beside it has; and the line, and 1,
+/// where no epoch beside it has stored there, else 0.
+#[derive(Clone, Copy)]
+pub(crate) struct Look {
+    pub meets: bool,
+    pub quiet: u32,
+}
 
 /// Of each byte the last epoch that stored it, and 1, or 0 for none; and the last that stored in each line.
 #[derive(Drop)]
@@ -37,9 +45,9 @@ impl Lines {
         Ok(Lines { own, two })
     }
 
-    /// Whether this epoch has not stored one of these bytes, which lie in this line, where an epoch from `first` on has stored in the line.
+    /// What a load of these bytes by this epoch meets, which lie in this line, where epochs from `first` on are beside it.
     #[inline(always)]
-    pub(crate) fn meets(
+    pub(crate) fn look(
         &self,
         _image: &Image,
         line: u32,
@@ -47,25 +55,36 @@ impl Lines {
         first: u32,
         addr: u32,
         width: u32,
-    ) -> bool
+    ) -> Look
+        requires small { line < 2 ^ 28 }
         requires limits { IsImage _image.now }
         requires line { line ≡ line_number _image.now addr }
         requires inside { line < line_count _image.now }
         requires access { spec.IsAllowed _image.now addr width }
         requires own { length self.now.own ≡ _image.now.size }
         requires lines { spec.AreLines _image.now self.now.two }
-        ensures found { result ≡ true → spec.MeetsLine _image.now self.now epoch first addr width }
-        ensures none { result ≡ false → spec.MeetsLine _image.now self.now epoch first addr width → ⊥ }
+        ensures found { result.meets ≡ true → spec.MeetsLine _image.now self.now epoch first addr width }
+        ensures none { result.meets ≡ false → spec.MeetsLine _image.now self.now epoch first addr width → ⊥ }
+        ensures quiet { (l : ℕ) → result.quiet ≡ l + 1 → (l ≡ line) × (spec.other_before self.now.two epoch l ≤ first) }
     {
         if self.two.other_before(epoch, line) <= first {
-            return false;
+            return Look {
+                meets: false,
+                quiet: line + 1,
+            };
         }
         for i in 0..width {
             if self.own.at(addr + i) != epoch.note() {
-                return true;
+                return Look {
+                    meets: true,
+                    quiet: 0,
+                };
             }
         }
-        false
+        Look {
+            meets: false,
+            quiet: 0,
+        }
     }
 
     /// Notes that this epoch stores these bytes, which lie in this line.
@@ -77,9 +96,31 @@ impl Lines {
         requires access { spec.IsAllowed _image.now addr width }
         requires own { length self.old.own ≡ _image.now.size }
         requires lines { spec.AreLines _image.now self.old.two }
-        ensures { spec.AreStored _image.now self.old self.new epoch addr width }
+        ensures stored { spec.AreStored _image.now self.old self.new epoch addr width }
+        ensures noted { spec.IsLineNoted self.old.two self.new.two epoch line }
     {
         self.own.mark(addr, width, epoch.note());
         self.two.note(epoch, line);
+    }
+
+    /// The same where it has stored in this line before.
+    #[inline(always)]
+    pub(crate) fn store_again(
+        &mut self,
+        _image: &Image,
+        line: u32,
+        epoch: Epoch,
+        addr: u32,
+        width: u32,
+    )
+        requires limits { IsImage _image.now }
+        requires line { line ≡ line_number _image.now addr }
+        requires access { spec.IsAllowed _image.now addr width }
+        requires own { length self.old.own ≡ _image.now.size }
+        requires again { slice_index self.old.two.last line ≡ epoch + 1 }
+        ensures stored { spec.AreStored _image.now self.old self.new epoch addr width }
+        ensures same { self.new.two ≡ self.old.two }
+    {
+        self.own.mark(addr, width, epoch.note());
     }
 }

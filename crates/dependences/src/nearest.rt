@@ -174,7 +174,9 @@ fn mark_each(writers: &mut [u32], addr: u32, width: u32, writer: u32)
     ensures long { length writers.new ≡ length writers.old }
     ensures marked { spec.IsMarked writers.old writers.new addr width writer }
 {
-    for i in 0..width {
-        writers[(addr + i) as usize] = writer;
+    // Beside a place that is no sum of two numbers of 32 bits LLVM knows that the numbers of a word follow one another.
+    let from = addr as usize;
+    for i in 0..width as usize {
+        writers[from + i] = writer;
     }
 }

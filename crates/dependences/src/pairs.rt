@@ -1,4 +1,4 @@
-ghost use Rattle.std.specs.Prelude.{◌≡◌, ℕ, ◌+◌, ◌<◌, ◌^◌, IfOk, OnOk, Some, None, [], true, false, cond, length, slice_index_or};
+ghost use Rattle.std.specs.Prelude.{◌≡◌, ℕ, ◌<◌, ◌≤◌, IfOk, OnOk, Some, None, [], true, false, cond, length, min, max, slice_index_or};
 ghost use Rattle.std.specs.Ordering.{is_eq};
 ghost use Rattle.std.specs.BTreeMap.{get};
 ghost use Rattle.dependences.specs.declared.pairs.PairSum.{PairSum};
@@ -30,9 +30,10 @@ pub struct PairSum {
 impl PairSum {
     /// Of one alone.
     fn of(one: Dependence) -> PairSum
+        requires { one.earlier ≤ one.later }
         ensures { result ≡ spec.sum_of_one one }
     {
-        let distance = one.later.saturating_sub(one.earlier);
+        let distance = one.later - one.earlier;
         PairSum {
             times: 1,
             least: distance,
@@ -44,17 +45,43 @@ impl PairSum {
     }
 
     /// Counts one more.
+    ///
+    /// `NoMemory`: there was none for a higher count.
     #[inline]
-    fn count(&mut self, one: Dependence)
-        requires { self.old.times + 1 < 2 ^ 64 }
-        ensures { self.new ≡ spec.sum_more self.old one }
+    fn count(&mut self, one: Dependence) -> Result<(), NoMemory>
+        requires { one.earlier ≤ one.later }
+        ensures { OnOk result (self.new ≡ spec.sum_more self.old one) }
     {
-        let distance = one.later.saturating_sub(one.earlier);
-        self.times += 1;
-        self.least = self.least.min(distance);
-        self.most = self.most.max(distance);
-        self.lowest = self.lowest.min(one.byte);
-        self.highest = self.highest.max(one.byte);
+        let Some(times) = self.times.checked_add(1) else {
+            return Err(NoMemory);
+        };
+        self.times = times;
+        let distance = one.later - one.earlier;
+        lower(&mut self.least, distance);
+        raise(&mut self.most, distance);
+        lower(&mut self.lowest, one.byte);
+        raise(&mut self.highest, one.byte);
+        Ok(())
+    }
+}
+
+/// Puts the other number in its place, if this is lower. Mostly it isn't, and nothing is written.
+#[inline]
+fn lower(number: &mut u32, other: u32)
+    ensures { number.new ≡ min number.old other }
+{
+    if other < *number {
+        *number = other;
+    }
+}
+
+/// Puts the other number in its place, if this is higher.
+#[inline]
+fn raise(number: &mut u32, other: u32)
+    ensures { number.new ≡ max number.old other }
+{
+    if *number < other {
+        *number = other;
     }
 }
 
@@ -101,7 +128,6 @@ fn slot_of(load: u32) -> usize
 pub(crate) struct PairSums {
     ready: Vec<Option<Ready>>,
     sums: BTreeMap<(u32, u32), PairSum>,
-    count: u64,
 }
 
 impl Found for PairSums {
@@ -111,11 +137,7 @@ impl Found for PairSums {
 
     #[inline]
     fn add(&mut self, one: Dependence) -> Result<(), NoMemory> {
-        let Some(count) = self.count.checked_add(1) else {
-            return Err(NoMemory);
-        };
         self.keep(one)?;
-        self.count = count;
         Ok(())
     }
 }
@@ -129,7 +151,6 @@ impl PairSums {
         Ok(PairSums {
             ready,
             sums: BTreeMap::new(alloc),
-            count: 0,
         })
     }
 
@@ -137,11 +158,11 @@ impl PairSums {
     #[inline]
     fn keep(&mut self, one: Dependence) -> Result<(), NoMemory>
         requires home { kept.AreAtHome self.old.ready.items }
-        requires below { (s : PairSum) → kept.kept_sum self.old.ready.items self.old.sums one.store_pc one.load_pc ≡ Some s → s.times + 1 < 2 ^ 64 }
+        requires order { one.earlier ≤ one.later }
         ensures home { OnOk result (kept.AreAtHome self.new.ready.items) }
         ensures added { OnOk result (kept.IsAdded self.old self.new one) }
     {
-        if self.count_ready(one) {
+        if self.count_ready(one)? {
             return Ok(());
         }
         // A copy, so that LLVM keeps the dependence in registers where its pair is at hand.
@@ -150,27 +171,29 @@ impl PairSums {
     }
 
     /// Adds one to the sum of its pair, where this is at hand. Answers whether it is.
+    ///
+    /// `NoMemory`: there was none for a higher count.
     #[inline]
-    fn count_ready(&mut self, one: Dependence) -> bool
+    fn count_ready(&mut self, one: Dependence) -> Result<bool, NoMemory>
         requires home { kept.AreAtHome self.old.ready.items }
-        requires below { (s : PairSum) → kept.kept_sum self.old.ready.items self.old.sums one.store_pc one.load_pc ≡ Some s → s.times + 1 < 2 ^ 64 }
-        ensures home { kept.AreAtHome self.new.ready.items }
-        ensures added { result ≡ true → kept.IsAdded self.old self.new one }
-        ensures same { result ≡ false → (self.new.ready.items ≡ self.old.ready.items) × (self.new.sums ≡ self.old.sums) }
-        ensures none { result ≡ false → kept.at_hand (slice_index_or self.old.ready.items (kept.slot one.load_pc) None) one.store_pc one.load_pc ≡ None }
+        requires order { one.earlier ≤ one.later }
+        ensures home { OnOk result (kept.AreAtHome self.new.ready.items) }
+        ensures added { IfOk result (λ is_so. is_so ≡ true → kept.IsAdded self.old self.new one) }
+        ensures same { IfOk result (λ is_so. is_so ≡ false → (self.new.ready.items ≡ self.old.ready.items) × (self.new.sums ≡ self.old.sums)) }
+        ensures none { IfOk result (λ is_so. is_so ≡ false → kept.at_hand (slice_index_or self.old.ready.items (kept.slot one.load_pc) None) one.store_pc one.load_pc ≡ None) }
     {
         match &mut self.ready[slot_of(one.load_pc)] {
             Some(ready) => {
                 if ready.store != one.store_pc {
-                    return false;
+                    return Ok(false);
                 }
                 if ready.load != one.load_pc {
-                    return false;
+                    return Ok(false);
                 }
-                ready.sum.count(one);
-                true
+                ready.sum.count(one)?;
+                Ok(true)
             }
-            None => false,
+            None => Ok(false),
         }
     }
 
@@ -178,31 +201,33 @@ impl PairSums {
     #[inline(never)]
     fn make_ready(&mut self, one: Dependence) -> Result<(), NoMemory>
         requires home { kept.AreAtHome self.old.ready.items }
-        requires below { (s : PairSum) → kept.kept_sum self.old.ready.items self.old.sums one.store_pc one.load_pc ≡ Some s → s.times + 1 < 2 ^ 64 }
+        requires order { one.earlier ≤ one.later }
         requires none { kept.at_hand (slice_index_or self.old.ready.items (kept.slot one.load_pc) None) one.store_pc one.load_pc ≡ None }
         ensures home { OnOk result (kept.AreAtHome self.new.ready.items) }
         ensures added { OnOk result (kept.IsAdded self.old self.new one) }
     {
         let (store, load) = (one.store_pc, one.load_pc);
         let slot = slot_of(load);
-        let sum = self.sum_with(one);
+        let sum = self.sum_with(one)?;
         self.put_back(slot)?;
         self.ready[slot] = Some(Ready { store, load, sum });
         Ok(())
     }
 
     /// The sum that the map has of the pair of a dependence, with this one.
-    fn sum_with(&self, one: Dependence) -> PairSum
-        requires { (s : PairSum) → get spec.by_pcs self.now.sums (one.store_pc, one.load_pc) ≡ Some s → s.times + 1 < 2 ^ 64 }
-        ensures { spec.sum_with (get spec.by_pcs self.now.sums (one.store_pc, one.load_pc)) one ≡ Some result }
+    ///
+    /// `NoMemory`: there was none for a higher count.
+    fn sum_with(&self, one: Dependence) -> Result<PairSum, NoMemory>
+        requires { one.earlier ≤ one.later }
+        ensures { IfOk result (λ sum. spec.sum_with (get spec.by_pcs self.now.sums (one.store_pc, one.load_pc)) one ≡ Some sum) }
     {
         match self.sums.get(&(one.store_pc, one.load_pc)) {
             Some(before) => {
                 let mut sum = *before;
-                sum.count(one);
-                sum
+                sum.count(one)?;
+                Ok(sum)
             }
-            None => PairSum::of(one),
+            None => Ok(PairSum::of(one)),
         }
     }
 
@@ -210,7 +235,6 @@ impl PairSums {
     fn put_back(&mut self, slot: usize) -> Result<(), NoMemory>
         requires { slot < length self.old.ready.items }
         ensures ready { self.new.ready.items ≡ self.old.ready.items }
-        ensures count { self.new.count ≡ self.old.count }
         ensures sums { OnOk result ((store load : ℕ) → get spec.by_pcs self.new.sums (store, load)
             ≡ kept.sum_or (kept.at_hand (slice_index_or self.old.ready.items slot None) store load) (get spec.by_pcs self.old.sums (store, load))) }
     {

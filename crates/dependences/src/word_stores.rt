@@ -1,9 +1,9 @@
 //! The last store of each aligned word.
-ghost use Rattle.std.specs.Prelude.{◌≡◌, ℕ, ◌<◌, ◌≤◌, IfOk, length, vec_capacity};
+ghost use Rattle.std.specs.Prelude.{◌≡◌, ℕ, ◌<◌, IfOk, length};
 ghost use Rattle.dependences.specs.declared.word_stores.Word.TheVariants.{Untouched};
 ghost use Rattle.dependences.specs.KeptWords as spec;
 
-use crate::byte_stores::StoredBy;
+use crate::byte_stores::{NO_STORE, StoredBy, reach};
 use rv32_exec::NoMemory;
 use std::alloc::Global;
 use std::marker::Model;
@@ -21,22 +21,57 @@ pub(crate) enum Word {
 
 /// By what each word of memory was stored last, at first by nothing. Contracts see the list of these.
 ///
-/// WordStores are made up to the highest that is stored, when it is, so memory is taken by what is touched.
+/// Words are made up to the highest that is stored, when it is, so memory is taken by what is touched. Each is kept as a store, which is
+/// none where the word is untouched, and `EACH` where its bytes have stores of their own.
 #[derive(Drop)]
 pub(crate) struct WordStores {
-    words: Vec<Word>,
+    words: Vec<StoredBy>,
     count: usize,
+}
+
+/// It stands for a store of its own of each byte of a word.
+const EACH: StoredBy = StoredBy {
+    writer: u32::MAX,
+    step: 0,
+    pc: 0,
+};
+
+/// The word that is kept as this.
+#[inline(always)]
+fn word_of(by: StoredBy) -> Word
+    ensures { result ≡ spec.word_of by }
+{
+    if by.writer == NO_STORE.writer {
+        Word::Untouched
+    } else if by.writer == EACH.writer {
+        Word::Bytes
+    } else {
+        Word::Whole(by)
+    }
+}
+
+/// As what a word is kept.
+#[inline(always)]
+fn kept(word: Word) -> StoredBy
+    requires { spec.IsKept word }
+    ensures { spec.word_of result ≡ word }
+{
+    match word {
+        Word::Untouched => NO_STORE,
+        Word::Whole(by) => by,
+        Word::Bytes => EACH,
+    }
 }
 
 impl Model for WordStores {
     ghost use Rattle.std.specs.Prelude.{List, vec_capacity};
     ghost use Rattle.dependences.specs.declared.word_stores.Word.{Word};
-    ghost use Rattle.dependences.specs.declared.word_stores.Word.TheVariants.{Untouched};
-    ghost use Rattle.dependences.specs.KeptMarks.{HasRoom, filled};
+    ghost use Rattle.dependences.specs.KeptMarks.{HasRoom};
+    ghost use Rattle.dependences.specs.KeptWords.{words_of};
 
     ghost Value = { List Word };
 
-    ghost view = { λ w. filled Untouched w.words.items w.count };
+    ghost view = { λ w. words_of w.words.items w.count };
 
     ghost invariant = { λ w. HasRoom w.words.items w.count (vec_capacity w.words) };
 }
@@ -59,7 +94,7 @@ impl WordStores {
         ensures { result ≡ spec.word_at self.now word }
     {
         match self.words.get(word as usize) {
-            Some(word) => *word,
+            Some(by) => word_of(*by),
             None => Word::Untouched,
         }
     }
@@ -67,46 +102,13 @@ impl WordStores {
     /// Notes by what a word was stored last.
     #[inline(always)]
     pub(crate) fn put(&mut self, word: u32, by: Word)
-        requires { word < length self.old }
+        requires within { word < length self.old }
+        requires kept { spec.IsKept by }
         ensures long { length self.new ≡ length self.old }
         ensures put { spec.IsPut self.old self.new word by }
     {
         let at = word as usize;
         reach(&mut self.words, at, self.count);
-        self.words[at] = by;
+        self.words[at] = kept(by);
     }
-}
-
-/// How many words are made at a time, at least.
-const STEP: usize = 1024;
-
-/// Makes words up to this one, of so many for which there is room.
-#[inline(always)]
-fn reach(words: &mut Vec<Word>, at: usize, count: usize)
-    requires at { at < count }
-    requires room { count ≤ vec_capacity words.old }
-    requires within { length words.old.items ≤ count }
-    ensures there { at < length words.new.items }
-    ensures within { length words.new.items ≤ count }
-    ensures same { (k : ℕ) → spec.word_at words.new.items k ≡ spec.word_at words.old.items k }
-    ensures capacity { vec_capacity words.old ≤ vec_capacity words.new }
-{
-    if at >= words.len() {
-        lengthen(words, at, count);
-    }
-}
-
-/// Makes words up to this one, which is past them, and some more.
-#[inline(never)]
-fn lengthen(words: &mut Vec<Word>, at: usize, count: usize)
-    requires past { length words.old.items ≤ at }
-    requires at { at < count }
-    requires room { count ≤ vec_capacity words.old }
-    ensures there { at < length words.new.items }
-    ensures within { length words.new.items ≤ count }
-    ensures same { (k : ℕ) → spec.word_at words.new.items k ≡ spec.word_at words.old.items k }
-    ensures capacity { vec_capacity words.old ≤ vec_capacity words.new }
-{
-    let more = count.min(at.saturating_add(STEP));
-    words.resize(more, Word::Untouched).unwrap();
 }

@@ -5,13 +5,13 @@ use Rattle.dependences.proofs.last_two.line_of.Goals as goal
 
 pub returns-clause-line : goal.returns-clause-line
 returns-clause-line c =
-    c.line_at.ensures
+    c.line_at.ensures.line
     ∙ line_is c.args.image.now c.machine.result c.args.addr c.place.result c.place.ensures.place c.machine.ensures.machine
 
 pub returns-clause-inside : goal.returns-clause-inside
 returns-clause-inside c below =
     let image = c.args.image.now in
-    subst (λ n. n < line_count image) (sym (c.line_at.ensures ∙ line_is image c.machine.result c.args.addr c.place.result c.place.ensures.place c.machine.ensures.machine))
+    subst (λ n. n < line_count image) (sym (c.line_at.ensures.line ∙ line_is image c.machine.result c.args.addr c.place.result c.place.ensures.place c.machine.ensures.machine))
     (number_counted image c.args.addr c.machine.ensures.limits.machine_allowed below)
 
 pub line_at-requires : goal.line_at-requires

@@ -1,8 +1,8 @@
 use Rattle.dependences.proofs.Words.{noted_word}
 use Rattle.dependences.proofs.lines.Lines.store.Goals as goal
 
-pub returns : goal.returns
-returns c = rw (← c.self.view_is) (record {
+pub returns-clause-stored : goal.returns-clause-stored
+returns-clause-stored c = rw (← c.self.view_is) (record {
   marked = rw (← c.note.ensures.note) c.mark.ensures.marked;
   own_long = c.mark.ensures.long;
   lines = noted_word c.args._image.now c.requires.limits c.args.addr c.args.width c.args.line c.requires.access.wide c.requires.access.aligned c.requires.line

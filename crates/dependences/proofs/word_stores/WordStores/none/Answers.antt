@@ -1,8 +1,8 @@
-use Rattle.std.proofs.Common.{◌-◌, length, ap, ◌∙◌}
-use Rattle.dependences.specs.declared.word_stores.Word.TheVariants.{Untouched}
-use Rattle.dependences.specs.KeptWords.{word_at}
-use Rattle.dependences.proofs.Marking.{none_after}
+use Rattle.std.proofs.Common.{ap, ◌∙◌}
+use Rattle.dependences.specs.KeptBytes.{store_at}
+use Rattle.dependences.specs.KeptWords.{word_of}
+use Rattle.dependences.proofs.WholeWords.{word_there}
 use Rattle.dependences.proofs.word_stores.WordStores.none.Goals as goal
 
 pub returns-clause-none : goal.returns-clause-none
-returns-clause-none c k = none_after c.in_ok-words.words.items (c.args.count - length c.in_ok-words.words.items) k Untouched ∙ ap (λ l. word_at l k) c.in_ok-words.ensures.items
+returns-clause-none c k = word_there c.in_ok-words.words.items c.args.count k ∙ ap (λ l. word_of (store_at l k)) c.in_ok-words.ensures.items

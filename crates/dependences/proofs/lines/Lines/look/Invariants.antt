@@ -1,5 +1,5 @@
 use Rattle.std.proofs.Common.{◌≡◌, ℕ, ◌+◌, ◌<◌, slice_index}
-use Rattle.dependences.proofs.lines.Lines.meets.Given as goal
+use Rattle.dependences.proofs.lines.Lines.look.Given as goal
 
 -- the bytes so far are the epoch's own
 abbrev pub invariant-loop-i : goal.invariant-loop-i

@@ -1,6 +1,7 @@
-use Rattle.std.proofs.Common.{sym, ◌∙◌, arith}
+use Rattle.std.proofs.Common.{◌≡◌, ◌≤◌, sym, subst, ◌∙◌, arith}
+use Rattle.dependences.specs.KeptLines.{other_before}
 use Rattle.dependences.proofs.Words.{meets_word, written_word}
-use Rattle.dependences.proofs.lines.Lines.meets.Goals as goal
+use Rattle.dependences.proofs.lines.Lines.look.Goals as goal
 
 pub returns-then-other_before-first-clause-none : goal.returns-then-other_before-first-clause-none
 returns-then-other_before-first-clause-none c none =
@@ -15,3 +16,8 @@ returns-then-at-note-clause-found c found =
     _ c.args.epoch c.args.first c.loop-i.i c.loop-i-test.true
     (λ same. c.if-at-note.true (c.at.ensures ∙ (same ∙ sym c.note.ensures.note)))
     (omega (arith, c.other_before.ensures, c.if-other_before-first.false)))
+
+pub returns-then-other_before-first-clause-quiet : goal.returns-then-other_before-first-clause-quiet
+returns-then-other_before-first-clause-quiet c l is =
+    let same : l ≡ c.args.line = omega (arith, is) in
+    rw (← c.self.view_is) (same, subst (λ n. other_before c.self.inside.two c.args.epoch n ≤ c.args.first) (sym same) (omega (arith, c.other_before.ensures, c.if-other_before-first.true)))
