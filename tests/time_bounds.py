@@ -41,8 +41,10 @@ MOST_OF_WHY = 20
 FEW, MANY, MOST_OF_MANY = 10_000, 60_000, 8
 # A plain store that makes a cell for each byte and core takes some 300 times as long as caches do.
 MOST_OF_PLAIN = 20
-# Twice as much input; what goes over all that was before takes four times as long.
-MOST_OF_TWICE = 2.9
+# Four times as much input; what goes over all that was before takes sixteen times as long.
+MOST_OF_FOUR_TIMES = 8
+# At each doubling at most 2.3 times.
+MOST_OF_DEPENDS = 5.3
 # What searches all addresses at each turn takes some 50 times as long.
 MOST_OF_ADDRESSES = 2
 # lw x5,64(x0); lw x5,68(x0); lw x5,72(x0); lw x5,76(x0); jalr x0,0(x1)
@@ -103,8 +105,8 @@ def bounds() -> list[Bound]:
         rows.append(Bound(f"why to audit, {form}", MOST_OF_WHY, Call("why", (), text),
                           Call("trace_cli", ("audit",), text)))
     for form in ("stores", "notices"):
-        twice = [Call("why", ("--attempts",), hard.text_of(form, count)) for count in (200_000, 100_000)]
-        rows.append(Bound(f"why --attempts, {form}, twice the entries", MOST_OF_TWICE, *twice))
+        calls = [Call("why", ("--attempts",), hard.text_of(form, count)) for count in (200_000, 50_000)]
+        rows.append(Bound(f"why --attempts, {form}, four times the entries", MOST_OF_FOUR_TIMES, *calls))
     even = [Call("replay", ("even", "plain", "2"), loads(count)) for count in (MANY, FEW)]
     rows.append(Bound("even plain, 60,000 epochs to 10,000", MOST_OF_MANY, *even))
     audits = [Call("trace_cli", ("audit",), loads(count) + trace_of_loads(count)) for count in (MANY, FEW)]
@@ -113,19 +115,19 @@ def bounds() -> list[Bound]:
              for store in ("plain", "caches")]
     rows.append(Bound("every schedule of 1 MiB, plain to caches", MOST_OF_PLAIN, *every))
     for store in ("plain", "caches"):
-        even = [Call("replay", ("even", store, "4"), counters(count)) for count in (20_000, 10_000)]
-        rows.append(Bound(f"even {store}, twice the epochs", MOST_OF_TWICE, *even))
+        even = [Call("replay", ("even", store, "4"), counters(count)) for count in (20_000, 5_000)]
+        rows.append(Bound(f"even {store}, four times the epochs", MOST_OF_FOUR_TIMES, *even))
         steps = [Call("replay", ("steps", store, "4"), counters(65_535) + "turns" + " 0 1 2 3" * count + "\n")
-                 for count in (10_000, 5_000)]
-        rows.append(Bound(f"steps {store}, twice the turns", MOST_OF_TWICE, *steps))
-        gains = [Call("gain", ("4", store), counters(count)) for count in (20_000, 10_000)]
-        rows.append(Bound(f"gain {store}, twice the epochs", MOST_OF_TWICE, *gains))
+                 for count in (10_000, 2_500)]
+        rows.append(Bound(f"steps {store}, four times the turns", MOST_OF_FOUR_TIMES, *steps))
+        gains = [Call("gain", ("4", store), counters(count)) for count in (20_000, 5_000)]
+        rows.append(Bound(f"gain {store}, four times the epochs", MOST_OF_FOUR_TIMES, *gains))
     waits = [Call("gain", ("4", "plain", "--wait", *(f"{1 << 20 | place * 4:08x}" for place in range(count))),
                   counters(10_000)) for count in (4096, 1)]
     rows.append(Bound("gain, 4,096 addresses at which no load stands to one", MOST_OF_ADDRESSES, *waits))
     for name, loop in (("nothing depends", loads), ("each epoch depends", counters), ("the last epoch depends", late)):
-        twice = [Call("depends", ("8",), loop(count)) for count in (60_000, 30_000)]
-        rows.append(Bound(f"depends where {name}, twice the epochs", MOST_OF_TWICE, *twice))
+        calls = [Call("depends", ("8",), loop(count)) for count in (60_000, 15_000)]
+        rows.append(Bound(f"depends where {name}, four times the epochs", MOST_OF_DEPENDS, *calls))
     return rows
 
 
