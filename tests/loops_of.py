@@ -128,8 +128,8 @@ def emulated(source: Path, folder: Path, words: list[str], given: bytes,
 
 def natives(folder: Path) -> Iterator[Check]:
     """Programs print and end as those of the native compiler do."""
-    if not shutil.which("cc"):
-        left_out("output beside the native compiler", "there is no cc")
+    if not (shutil.which("cc") and shutil.which("c++")):
+        left_out("output beside the native compiler", "there is no cc, or no c++")
         return
     for source, words, given in [*(Call(source, [], b"") for source in SOURCES),
                                  Call(PROGRAMS / "words.c", ["-n", "3"], b"one two\nthree\n\nfour"),

@@ -15,7 +15,7 @@ heap that it gives without that, and `seq` of the image has to make of the memor
 fails is told, WRONG or DIFFERENT, and not written.
 
 It ends with 0 where all is written, with 1 where a loop is refused, with 2 where the program can't be built or run,
-with 3 where a check failed. Needs Debian's clang, lld, llvm-14-dev, g++, python3-unicorn, python3-pyelftools,
+with 3 where a check failed. Needs Debian's clang, lld, llvm-14-dev, python3-unicorn, python3-pyelftools,
 picolibc-riscv64-unknown-elf and gcc-riscv64-unknown-elf (for its libgcc). The plug-in of LLVM is built once.
 """
 

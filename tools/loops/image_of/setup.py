@@ -1,7 +1,6 @@
 """The state before a loop, as a function of the program makes it: the function runs on Unicorn's RISC-V, and the memory
 that it leaves becomes the image's."""
 
-import os
 import sys
 from types import ModuleType
 
@@ -9,8 +8,9 @@ from .elf import Program
 from .lines import lines_of
 from .reasons import Refused
 
-# unicorn imports distutils, in whose place setuptools puts its own, which takes long to import
-os.environ.setdefault("SETUPTOOLS_USE_DISTUTILS", "stdlib")
+# What setuptools puts on the path of imports, so that its own distutils takes that one's place: unicorn imports
+# distutils, and setuptools takes long to import.
+SHIM = "_distutils_hack"
 PAGE = 4096
 # Above what memory can have: a stack, and where the function returns to
 STACK, STACK_BYTES, RETURN = 0x40000000, 1 << 20, 0x50000000
@@ -21,6 +21,7 @@ RETURN_ADDRESS, STACK_POINTER = 1, 2
 
 def unicorn_module() -> ModuleType:
     """Unicorn, of Debian's packages too where another Python runs than Debian's."""
+    sys.meta_path[:] = [finder for finder in sys.meta_path if type(finder).__module__ != SHIM]
     try:
         import unicorn
         import unicorn.riscv_const

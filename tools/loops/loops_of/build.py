@@ -64,8 +64,7 @@ def lacking() -> list[str]:
     there = {"clang": llvm("clang").is_file(), "lld": llvm("ld.lld").is_file(),
              "llvm-14-dev": (LLVM / "include/llvm/Pass.h").exists(),
              "llvm-14": llvm("opt").is_file(), "picolibc-riscv64-unknown-elf": archives()[0].is_file(),
-             "gcc-riscv64-unknown-elf": len(archives()) == 3,
-             "g++": shutil.which("g++") is not None}
+             "gcc-riscv64-unknown-elf": len(archives()) == 3}
     return [package for package, found in there.items() if not found]
 
 
@@ -101,8 +100,8 @@ class Kit:
 
 def build_plugin(kit: Kit, flags: tuple[str, ...] = ()) -> None:
     """Builds the plug-in."""
-    words = ["-std=c++17", "-O1", "-fPIC", "-fno-rtti", "-fno-exceptions", "-isystem", LLVM / "include", *flags]
-    run("g++", *words, "-shared", HERE / "pass/all.cpp", "-o", kit.plugin)
+    words = ["-std=c++17", "-O0", "-fPIC", "-fno-rtti", "-fno-exceptions", "-isystem", LLVM / "include", *flags]
+    run(llvm("clang++"), *words, "-shared", HERE / "pass/all.cpp", "-o", kit.plugin)
 
 
 def build_runtime(kit: Kit) -> None:
