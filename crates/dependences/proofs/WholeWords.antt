@@ -1,5 +1,5 @@
 -- The last stores of bytes, of which those of a word that one store has stored whole are kept once.
-use Rattle.std.proofs.Common.{subst, set, map, replicate, length-append, false, ◌-◌, [], ◌∷◌, ◌++◌, ◌≡◌, ℕ, zero, suc, ◌+◌, ◌/◌, ◌%◌, ◌<◌, ◌≤◌, List, length, Some, None, slice_index, refl, sym, ap, ◌∙◌, inl, inr, arith}
+use Rattle.std.proofs.Common.{subst, set, map, false, ◌-◌, [], ◌∷◌, ◌++◌, ◌≡◌, ℕ, zero, suc, ◌+◌, ◌/◌, ◌%◌, ◌<◌, ◌≤◌, List, length, Some, None, slice_index, refl, sym, ap, ◌∙◌, inl, inr, arith}
 use Rattle.std.proofs.lemmas.Bool.{cases_lt}
 use Rattle.memory_bytes.specs.Bytes.{IsWidth}
 use Rattle.memory_bytes.proofs.SmallFacts.{by_width, some_wide}
@@ -10,7 +10,7 @@ use Rattle.dependences.specs.declared.last_stores.LastStore.{LastStore}
 use Rattle.dependences.specs.declared.word_stores.Word.{Word}
 use Rattle.dependences.specs.declared.word_stores.Word.TheVariants.{Untouched, Whole, Bytes}
 use Rattle.std.proofs.Math.ListN.{get_or, get_or-map}
-use Rattle.std.proofs.lemmas.List.{get_or-set_same, get_or-set_other, length-map, length-replicate, length-set, map-set}
+use Rattle.std.proofs.lemmas.List.{get_or-set_same, get_or-set_other, length-map, length-set, map-set}
 use Rattle.dependences.specs.Kept.{IsMarked, nearer}
 use Rattle.dependences.specs.KeptMarks.{filled}
 use Rattle.dependences.specs.KeptStores.{AreMarked, IsNearestByte, Stores, dependence_at}
@@ -18,7 +18,7 @@ use Rattle.dependences.specs.KeptBytes.{no_store, numbers_of, store_at}
 use Rattle.dependences.specs.KeptLast.{AreLast, IsLast, dependence_by}
 use Rattle.dependences.specs.KeptRun.{IsLoadKept}
 use Rattle.dependences.specs.Nearest.{IsNearestLater}
-use Rattle.dependences.proofs.Marking.{none_after}
+use Rattle.dependences.proofs.Marking.{filled_long, none_after}
 use Rattle.dependences.specs.KeptWords.{AreSpread, AreWords, IsPut, last_of, last_stores, listed, of_byte, of_bytes, word_at, word_of, words_of}
 
 -- ---- the list of all bytes
@@ -321,16 +321,11 @@ put_number number old mid size byte by none same within =
       past = λ a high. other a (λ at. omega (arith, at, high));
     }
 
-filled_long : (stores : List StoredBy) (size : ℕ) → length stores ≤ size → length (filled no_store stores size) ≡ size
-filled_long stores size short =
-    let sum = length-append stores (replicate (size - length stores) no_store) in
-    let more = length-replicate (size - length stores) no_store in omega (arith, sum, more, short)
-
 long_filled : (number : StoredBy → ℕ) (old mid : List StoredBy) (size byte : ℕ) (by : StoredBy) → length old ≤ size → length mid ≤ size
     → length (map number (filled no_store (set mid byte by) size)) ≡ length (map number (filled no_store old size))
 long_filled number old mid size byte by short short' =
     length-map (filled no_store (set mid byte by) size) number
-    ∙ (filled_long (set mid byte by) size (rw (length-set mid byte by) short') ∙ (sym (filled_long old size short) ∙ sym (length-map (filled no_store old size) number)))
+    ∙ (filled_long no_store (set mid byte by) size (rw (length-set mid byte by) short') ∙ (sym (filled_long no_store old size short) ∙ sym (length-map (filled no_store old size) number)))
 
 pub put_beside : (old mid : List StoredBy) (size byte : ℕ) (by : StoredBy) → length old ≤ size → length mid ≤ size → ((a : ℕ) → store_at mid a ≡ store_at old a) → byte < length mid
     → AreMarked (numbers_of old size) (numbers_of (set mid byte by) size) byte 1 by.writer by.step by.pc

@@ -113,7 +113,8 @@ fn run_in_order<F: Found>(
 {
     let mut memory = Vec::from_slice(alloc, image.bytes())?;
     let stores = LastStores::none(alloc, image.size() as usize)?;
-    let mut lengths = Vec::new(alloc);
+    // Room for all at once: a list that grows leaves memory behind that was touched.
+    let mut lengths = Vec::with_capacity(alloc, image.epochs() as usize)?;
     let mut flow = Flow {
         epoch: Epoch::of(0),
         stores,

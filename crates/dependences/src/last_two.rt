@@ -5,6 +5,7 @@ ghost use Rattle.spec_history.specs.Conflict.{line_number, line_count};
 ghost use Rattle.dependences.specs.KeptLines as spec;
 
 use crate::epoch::Epoch;
+use crate::marks::Marks;
 use rv32_exec::NoMemory;
 use rv32_image::Image;
 use std::alloc::Global;
@@ -42,8 +43,8 @@ fn line_at(place: u32, length: u32) -> u32
 /// Of each line the last epoch that did something in it, and 1, and the last before that one. 0 for none.
 #[derive(Drop)]
 pub(crate) struct LastTwo {
-    last: Vec<u32>,
-    before: Vec<u32>,
+    last: Marks,
+    before: Marks,
 }
 
 impl Model for LastTwo {
@@ -51,7 +52,7 @@ impl Model for LastTwo {
 
     ghost Value = { spec.LastTwo };
 
-    ghost view = { λ s. record { last = s.last.items; before = s.before.items } };
+    ghost view = { λ s. record { last = s.last; before = s.before } };
 }
 
 impl LastTwo {
@@ -61,8 +62,8 @@ impl LastTwo {
         ensures last { IfOk result (λ s. (line : ℕ) → slice_index s.last line ≡ 0) }
     {
         let count = line_of(image, image.size()) as usize;
-        let last = vec![in alloc; 0; count]?;
-        let before = vec![in alloc; 0; count]?;
+        let last = Marks::none(alloc, count)?;
+        let before = Marks::none(alloc, count)?;
         Ok(LastTwo { last, before })
     }
 
@@ -73,9 +74,9 @@ impl LastTwo {
         requires before { line < length self.now.before }
         ensures { result ≡ spec.other_before self.now epoch line }
     {
-        let last = self.last[line as usize];
+        let last = self.last.at(line);
         if last == epoch.note() {
-            self.before[line as usize]
+            self.before.at(line)
         } else {
             last
         }
@@ -86,7 +87,7 @@ impl LastTwo {
         requires { line < length self.now.last }
         ensures { result ≡ slice_index self.now.last line }
     {
-        self.last[line as usize]
+        self.last.at(line)
     }
 
     /// The last before that one, and 1.
@@ -94,7 +95,7 @@ impl LastTwo {
         requires { line < length self.now.before }
         ensures { result ≡ slice_index self.now.before line }
     {
-        self.before[line as usize]
+        self.before.at(line)
     }
 
     /// Notes that this epoch, another than the last one that did so, does so in this line.
@@ -104,9 +105,8 @@ impl LastTwo {
         requires before { line < length self.old.before }
         ensures { self.new ≡ spec.followed self.old epoch line }
     {
-        let at = line as usize;
-        self.before[at] = self.last[at];
-        self.last[at] = epoch.note();
+        self.before.put(line, self.last.at(line));
+        self.last.put(line, epoch.note());
     }
 
     /// Notes that this epoch does so in this line.
@@ -116,11 +116,10 @@ impl LastTwo {
         requires before { line < length self.old.before }
         ensures { spec.IsLineNoted self.old self.new epoch line }
     {
-        let at = line as usize;
-        let last = self.last[at];
+        let last = self.last.at(line);
         if last != epoch.note() {
-            self.before[at] = last;
-            self.last[at] = epoch.note();
+            self.before.put(line, last);
+            self.last.put(line, epoch.note());
         }
     }
 }

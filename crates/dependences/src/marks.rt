@@ -1,5 +1,5 @@
-//! A number beside each byte of memory.
-ghost use Rattle.std.specs.Prelude.{◌≡◌, ◌+◌, ◌<◌, ◌≤◌, ◌^◌, ℕ, IfOk, length, slice_index, vec_capacity};
+//! A number beside each of some places.
+ghost use Rattle.std.specs.Prelude.{◌≡◌, ◌+◌, ◌<◌, ◌≤◌, ◌^◌, ℕ, IfOk, length, set, slice_index, vec_capacity};
 ghost use Rattle.dependences.specs.Kept.{IsMarked};
 
 use crate::nearest::mark;
@@ -7,9 +7,9 @@ use rv32_exec::NoMemory;
 use std::alloc::Global;
 use std::marker::Model;
 
-/// Of each byte of memory a number, at first 0. Contracts see the list of these.
+/// Of each of some places, as bytes of memory or lines, a number, at first 0. Contracts see the list of these.
 ///
-/// Numbers are made up to the highest byte that is marked, when it is, so memory is taken by what is touched.
+/// Numbers are made up to the highest place that is marked, when it is, so memory is taken by what is touched.
 #[derive(Drop)]
 pub(crate) struct Marks {
     numbers: Vec<u32>,
@@ -28,7 +28,7 @@ impl Model for Marks {
 }
 
 impl Marks {
-    /// Of so many bytes, 0 each.
+    /// Of so many places, 0 each.
     ///
     /// `NoMemory`: there was no room for them.
     pub(crate) fn none(alloc: Global, size: usize) -> Result<Marks, NoMemory>
@@ -39,15 +39,26 @@ impl Marks {
         Ok(Marks { numbers, size })
     }
 
-    /// The number of a byte.
+    /// The number of a place.
     #[inline(always)]
-    pub(crate) fn at(&self, byte: u32) -> u32
-        ensures { result ≡ slice_index self.now byte }
+    pub(crate) fn at(&self, place: u32) -> u32
+        ensures { result ≡ slice_index self.now place }
     {
-        match self.numbers.get(byte as usize) {
+        match self.numbers.get(place as usize) {
             Some(number) => *number,
             None => 0,
         }
+    }
+
+    /// Gives a place this number.
+    #[inline(always)]
+    pub(crate) fn put(&mut self, place: u32, number: u32)
+        requires { place < length self.old }
+        ensures { self.new ≡ set self.old place number }
+    {
+        let at = place as usize;
+        reach(&mut self.numbers, at + 1, self.size);
+        self.numbers[at] = number;
     }
 
     /// Gives the bytes of an access this number.

@@ -5,6 +5,7 @@ ghost use Rattle.dependences.specs.KeptTouches as spec;
 use crate::beside::first_beside;
 use crate::epoch::Epoch;
 use crate::last_two::{LastTwo, line_of};
+use crate::marks::Marks;
 use rv32_exec::NoMemory;
 use rv32_image::Image;
 use std::alloc::Global;
@@ -15,8 +16,8 @@ use std::marker::Model;
 #[derive(Drop)]
 pub(crate) struct Touches {
     two: LastTwo,
-    stored: Vec<u32>,
-    counts: Vec<u32>,
+    stored: Marks,
+    counts: Marks,
     full: bool,
 }
 
@@ -25,7 +26,7 @@ impl Model for Touches {
 
     ghost Value = { spec.Touched };
 
-    ghost view = { λ t. record { two = t.two; stored = t.stored.items; counts = t.counts.items; full = t.full } };
+    ghost view = { λ t. record { two = t.two; stored = t.stored; counts = t.counts; full = t.full } };
 }
 
 impl Touches {
@@ -34,9 +35,9 @@ impl Touches {
         ensures { IfOk result (λ t. (cores : ℕ) → spec.AreTouchesKept image.now cores 0 t) }
     {
         let count = line_of(image, image.size()) as usize;
-        let stored = vec![in alloc; 0; count]?;
+        let stored = Marks::none(alloc, count)?;
         let epochs = image.epochs() as usize;
-        let counts = vec![in alloc; 0; epochs]?;
+        let counts = Marks::none(alloc, epochs)?;
         let two = LastTwo::none(alloc, image)?;
         Ok(Touches {
             two,
@@ -96,9 +97,9 @@ impl Touches {
     {
         let last = self.two.last_in(line);
         last > first_beside(cores, epoch)
-            && self.stored[line as usize] == last
+            && self.stored.at(line) == last
             && self.two.before_in(line) <= first_beside(cores, last - 1)
-            && self.counts[(last - 1) as usize] > 0
+            && self.counts.at(last - 1) > 0
     }
 
     /// Notes that this epoch stores in this line: where one beside it has touched the line before, it is shared.
@@ -107,11 +108,10 @@ impl Touches {
         requires inside { spec.IsInside self.old epoch line }
         ensures { self.new ≡ spec.after_store self.old limit cores epoch line }
     {
-        let at = line as usize;
-        if self.stored[at] == epoch + 1 {
+        if self.stored.at(line) == epoch + 1 {
             return;
         }
-        self.stored[at] = epoch + 1;
+        self.stored.put(line, epoch + 1);
         if self.two.before_in(line) > first_beside(cores, epoch) {
             self.count(limit, epoch);
         }
@@ -123,8 +123,8 @@ impl Touches {
         requires few { slice_index self.old.counts epoch < 2 ^ 32 - 1 }
         ensures { self.new ≡ spec.counted self.old limit epoch }
     {
-        let count = self.counts[epoch as usize] + 1;
-        self.counts[epoch as usize] = count;
+        let count = self.counts.at(epoch) + 1;
+        self.counts.put(epoch, count);
         if count > limit {
             self.full = true;
         }
