@@ -9,7 +9,7 @@ ghost use Rattle.depends.specs.Plain as spec;
 
 use crate::least::least_over_bytes;
 use crate::line::Line;
-use crate::shown::first_of;
+use crate::shown::{first_of, history_of};
 use all_schedules::{LoopOn, trace_is_made_again, turns_of};
 use homefree::Book;
 use shown_conflicts::{Ahead, InOrder, show_conflict};
@@ -45,7 +45,7 @@ fn line_from_plain(alloc: Global, on: &LoopOn<'_>, ran: InOrder) -> Result<Line,
 {
     let (cores, room) = (on.cores, on.room.entries());
     match show_conflict(alloc, on.image, cores, room, ran) {
-        Ok(Ahead::Violated(book)) => line_of_violation(alloc, on, &book),
+        Ok(Ahead::Violated(book)) => line_of_violation(alloc, on, book),
         Ok(Ahead::HistoryFull(book)) => {
             trace_is_made_again(&book);
             Ok(Line::Open { cores })
@@ -59,15 +59,16 @@ fn line_from_plain(alloc: Global, on: &LoopOn<'_>, ran: InOrder) -> Result<Line,
 fn line_of_violation(
     alloc: Global,
     on: &LoopOn<'_>,
-    book: &Book<PlainStore>,
+    book: Book<PlainStore>,
 ) -> Result<Line, AllocError>
-    requires same { loop_of book.now ≡ the_loop on.now }
-    requires violation { HasViolation book.now.history }
+    requires same { loop_of book ≡ the_loop on.now }
+    requires violation { HasViolation book.history }
     ensures { IfOk result (spec.IsPlainFrom on.now.image.now on.now.cores on.now.room) }
 {
-    trace_is_made_again(book);
+    trace_is_made_again(&book);
     let cores = on.cores;
-    let entries = book.history();
+    let history = history_of(alloc, book)?;
+    let entries = history.as_slice();
     let first = first_of(alloc, on.image, cores, entries)?;
     let turns = turns_of(alloc, cores, entries)?;
     let shown = first.unwrap();

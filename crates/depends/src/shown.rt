@@ -47,12 +47,22 @@ pub fn show<S: EpochStore>(
     let made: Result<Book<S>, TurnFault> = drive_schedule(alloc, on, schedule);
     match made {
         Ok(book) => {
+            let history = history_of(alloc, book)?;
             let cores = on.cores;
-            first_of(alloc, on.image, cores, book.history())
+            first_of(alloc, on.image, cores, history.as_slice())
         }
         Err(TurnFault::HistoryFull) => Ok(None),
         Err(TurnFault::NoMemory) => Err(AllocError),
     }
+}
+
+/// The history of a book, which ends here: what explains the history has the book's memory then.
+///
+/// `AllocError`: memory ran out.
+pub fn history_of<S: EpochStore>(alloc: Global, book: Book<S>) -> Result<Vec<Entry>, AllocError>
+    ensures { IfOk result (λ entries. entries.items ≡ book.history) }
+{
+    Vec::from_slice(alloc, book.history())
 }
 
 /// The first violation of a history, if it has one.
