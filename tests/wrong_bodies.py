@@ -48,9 +48,18 @@ pub fn next_but_one(n: u32) -> u32
     requires { n < 99 }
     ensures { result ≡ n + 2 }
 {
-    // two steps
     let one = next(n);
     next(one)
+}
+
+/// The number two after `n`, by two steps.
+pub fn two_steps_on(n: u32) -> u32
+    requires { n < 99 }
+    ensures { result ≡ n + 2 }
+{
+    // step by step
+    let middle = next(n);
+    next(middle)
 }
 
 /// The number three after `n`.
@@ -70,13 +79,29 @@ pub fn two_after(n: u32) -> u32
     n + 2
 }
 
+/// The same, in brackets.
+pub fn two_at_once(n: u32) -> u32
+    requires { n < 99 }
+    ensures { result ≡ n + 2 }
+{
+    (n + 2)
+}
+
 /// The number four after `n`.
 pub fn four_after(n: u32) -> u32
     requires { n < 97 }
     ensures { result ≡ n + 4 }
 {
-    // by three
     next(three_after(n))
+}
+
+/// The number five after `n`.
+pub fn five_after(n: u32) -> u32
+    requires { n < 96 }
+    ensures { result ≡ n + 5 }
+{
+    // by four
+    next(next(three_after(n)))
 }
 
 /// The number three after `n`, in a body that no edit changes.
@@ -146,15 +171,15 @@ impl Count for Ones {
     }
 }
 
-/// Counts by two.
+/// Counts by four.
 #[derive(Drop)]
-pub struct Twos {
+pub struct Fours {
     pub made: u32,
 }
 
-impl Count for Twos {
+impl Count for Fours {
     fn after(&self, n: u32) -> u32 {
-        2 + n
+        4 + n
     }
 }
 
@@ -198,22 +223,28 @@ pub returns : goal.returns
 returns c = c.one_after.ensures ∙ ap (λ k. 1 + k) c.one_after-first.ensures
 """
 PROOF = "proofs/next_but_one/Answers.antt"
-# The lines of an edit that make a proof file of a function that has none.
-OWN_ANSWERS = [
-    "file: proofs/two_after/Answers.antt",
-    "new: use Rattle.std.proofs.Common.{arith}",
-    "new: use Rattle.steps.proofs.two_after.Goals as goal",
-    "new: ",
-    "new: pub returns : goal.returns",
-    "new: returns c = omega arith",
-]
+
+
+def own_answers(function: str) -> list[str]:
+    """The lines of an edit that make a proof file of a function that has none."""
+    return [
+        f"file: proofs/{function}/Answers.antt",
+        "new: use Rattle.std.proofs.Common.{arith}",
+        f"new: use Rattle.steps.proofs.{function}.Goals as goal",
+        "new: ",
+        "new: pub returns : goal.returns",
+        "new: returns c = omega arith",
+    ]
+
+
 IMPORT = "ghost use Rattle.std.specs.Prelude.{◌≡◌, ◌+◌, ◌<◌};"
 WITH_LESS = "ghost use Rattle.std.specs.Prelude.{◌≡◌, ◌+◌, ◌<◌, ◌≤◌};"
 LONG_NAME = "number_that_comes_two_steps_after_another_number"
 LONG_STEP = "number_that_comes_one_step_after_it"
 # Where a step has another name, `two-steps` names one that isn't there, and `returns` depends on it, "which was
-# rejected". Name of an edit: its pairs of old and new text, and of a file that isn't the source, or a line; and what
-# has to be told of it.
+# rejected". What has to be proved in a function's place has a function of its own, so that one check tries all of it.
+# Name of an edit: its pairs of old and new text, and of a file that isn't the source, or a line; and what has to be
+# told of it.
 # An old and a new text, and where it isn't the usual one, the file; or a line
 Pair = tuple[str, ...] | str
 EDITS: dict[str, tuple[Sequence[Pair], str]] = {
@@ -221,8 +252,8 @@ EDITS: dict[str, tuple[Sequence[Pair], str]] = {
     "next_but_one_adds_the_limit": ([("    next(one)", "    next(one) + 1")], "refused: "),
     "next_changes_nothing": ([("    n + 1", "    n + 1")], "FAILED, BAD EDIT: it changes nothing"),
     "next_changes_a_comment": ([("// one more", "// plus one")], "FAILED, NOT REFUSED by a message at next: proved"),
-    "next_but_one_with_answers_changes_a_comment": (
-        [("// two steps", "// 2 steps")], "FAILED, NOT REFUSED by a message at next_but_one: proved"),
+    "two_steps_on_with_answers_changes_a_comment": (
+        [("// step by step", "// step for step")], "FAILED, NOT REFUSED by a message at two_steps_on: proved"),
     "next_breaks_another_function": ([("result ≡ n + 1 }", "n < result }")],
                                      "FAILED, NOT REFUSED by a message at next: proved"),
     "next_of_a_text_that_is_not_there": ([("    n + 7", "    n + 1")],
@@ -252,7 +283,7 @@ EDITS: dict[str, tuple[Sequence[Pair], str]] = {
     "two_by_steps_is_right_without_answers": (
         [("    one_after(first)", "    one_after(first + 1 - 1)"), "without answers"],
         "FAILED, NOT REFUSED by a message at two_by_steps: proved"),
-    "after_of_the_trait_is_the_same": ([("        2 + n", "        n")], "refused: "),
+    "after_of_the_trait_is_the_same": ([("        4 + n", "        n")], "refused: "),
     "next_but_two_is_right_over_a_broken_one": (
         [("    next_but_one(after)", "    next(next_but_one(n))")],
         "FAILED, NOT REFUSED by a message at next_but_two: proved"),
@@ -260,10 +291,11 @@ EDITS: dict[str, tuple[Sequence[Pair], str]] = {
         [("    n + 1", "    (n) + 1"), ("    next_but_one(after)", "    next(after)"), ("    (n) + 1", "    n + 1")],
         "refused: "),
     "two_after_has_the_text_that_next_is_given": ([("    n + 2", "    n + 3")], "refused: "),
-    "two_after_is_four_by_answers_of_its_own": ([*OWN_ANSWERS, ("    n + 2", "    n + 4")],
+    "two_after_is_four_by_answers_of_its_own": ([*own_answers("two_after"), ("    n + 2", "    n + 4")],
                                                 "refused: ./proofs/two_after"),
-    "two_after_is_right_by_answers_of_its_own": ([*OWN_ANSWERS, ("    n + 2", "    1 + n + 1")],
-                                                 "FAILED, NOT REFUSED by a message at two_after: proved"),
+    "two_at_once_is_right_by_answers_of_its_own": (
+        [*own_answers("two_at_once"), ("    (n + 2)", "    1 + n + 1")],
+        "FAILED, NOT REFUSED by a message at two_at_once: proved"),
     "two_after_with_a_line_that_takes_no_place": (["file: src/lib.rs", "new: // two more", ("    n + 2", "    n + 5")],
                                                   "FAILED, BAD EDIT: a line 'new:' stands before any"),
     "four_after_is_five_after": ([("    next(three_after(n))", "    next(three_after(n)) + 1")], "refused: "),
@@ -276,8 +308,8 @@ EDITS: dict[str, tuple[Sequence[Pair], str]] = {
     "count_of_promises_less_by_the_same_import": (
         [(IMPORT, WITH_LESS), ("    ensures large { size ≡ Size.Large → result ≡ 2 }",
                                "    ensures large { size ≡ Size.Large → result ≤ 1 }")], "refused: "),
-    "four_after_over_one_that_is_not_proved_changes_a_comment": (
-        [("// by three", "// by 3")], "FAILED, NOT REFUSED by a message at four_after: proved"),
+    "five_after_over_one_that_is_not_proved_changes_a_comment": (
+        [("// by four", "// by 4")], "FAILED, NOT REFUSED by a message at five_after: proved"),
     "four_after_in_a_twin_is_right": (
         [("    next(three_after(n))", "    next((three_after(n)))")],
         "FAILED, NOT REFUSED by a message at four_after: proved"),
@@ -324,7 +356,7 @@ RIGHT = {
     "next_but_one_is_wrong_with_answers_that_fit": "FAILED, NOT PROVED with its answers: ./proofs/next_but_one",
     "next_but_one_with_the_answers_of_another": "FAILED, BAD EDIT: it changes a proof of a function that it doesn't",
     "two_after_is_four_by_answers_of_its_own": "proved with its answers",
-    "two_after_is_right_by_answers_of_its_own": "proved with its answers",
+    "two_at_once_is_right_by_answers_of_its_own": "proved with its answers",
 }
 
 # Two terms at the one place at which an answer doesn't fit, and whether they are other values for sure.
@@ -436,8 +468,9 @@ def repository(top: Path) -> None:
     write(top / "crates/steps/src/lib.rt", SOURCE)
     write(top / "crates/steps/proofs/next_but_one/Answers.antt", ANSWERS)
     write(top / "crates/steps/proofs/two_by_steps/Answers.antt", STEPS_ANSWERS)
-    long_answers = ANSWERS.replace("next_but_one", LONG_NAME).replace("next-one", f"next-{LONG_STEP}")
-    write(top / f"crates/steps/proofs/{LONG_NAME}/Answers.antt", long_answers)
+    for name, step in ((LONG_NAME, LONG_STEP), ("two_steps_on", "middle")):
+        answers = ANSWERS.replace("next_but_one", name).replace("next-one", f"next-{step}")
+        write(top / f"crates/steps/proofs/{name}/Answers.antt", answers)
     write(top / "tests/wrong-bodies/misfits.txt", "".join(f"steps/{it}\n" for it in KNOWN))
     for crate, edits in (("steps", EDITS), ("low", LOW_EDITS)):
         for name, (pairs, _) in edits.items():
