@@ -132,7 +132,7 @@ class Segment:
 
 @dataclass(frozen=True)
 class Symbol:
-    """A symbol that is defined."""
+    """A symbol that is defined and has a name."""
     name: str
     value: int
     size: int
@@ -150,6 +150,14 @@ def bytes_at(path: Path, offset: int, length: int) -> bytes:
 def section_of(path: Path, one: Any) -> Section:
     return Section(path, one.name, str(one["sh_type"]), one["sh_flags"], one["sh_addr"], one["sh_offset"],
                    one["sh_size"])
+
+
+def named_in(table: Any) -> Iterator[Any]:
+    """The symbols of a table that have a name. LLVM's code for RISC-V has one without a name for each line, and
+    pyelftools takes long to read so many. The name's place comes first in a symbol."""
+    data, length = table.data(), table["sh_entsize"]
+    return (table.get_symbol(number) for number in range(table.num_symbols())
+            if any(data[number * length:number * length + 4]))
 
 
 class Opened:
@@ -171,7 +179,7 @@ class Opened:
             table = elf.get_section_by_name(".symtab")
             self.symbols = [Symbol(one.name, one["st_value"], one["st_size"], str(one["st_info"]["type"]),
                                    one["st_info"]["bind"] == "STB_LOCAL")
-                            for one in (table.iter_symbols() if table else []) if one["st_shndx"] != "SHN_UNDEF"]
+                            for one in (named_in(table) if table else []) if one["st_shndx"] != "SHN_UNDEF"]
 
     def check_length(self, end: int) -> None:
         length = self.path.stat().st_size
