@@ -38,13 +38,11 @@ ENTRIES = 50_000
 # times as much at this length, and more at any longer.
 MOST_OF_WHY = 20
 # Six times as much input; what goes over all that was before at each epoch takes 36 times as long.
-FEW, MANY, MOST_OF_MANY = 10_000, 60_000, 8
+FEW, MANY, MOST_OF_MANY = 10_000, 60_000, 14
 # A plain store that makes a cell for each byte and core takes some 300 times as long as caches do.
 MOST_OF_PLAIN = 20
 # Four times as much input; what goes over all that was before takes sixteen times as long.
 MOST_OF_FOUR_TIMES = 8
-# At each doubling at most 2.3 times.
-MOST_OF_DEPENDS = 5.3
 # What searches all addresses at each turn takes some 50 times as long.
 MOST_OF_ADDRESSES = 2
 # lw x5,64(x0); lw x5,68(x0); lw x5,72(x0); lw x5,76(x0); jalr x0,0(x1)
@@ -127,7 +125,7 @@ def bounds() -> list[Bound]:
     rows.append(Bound("gain, 4,096 addresses at which no load stands to one", MOST_OF_ADDRESSES, *waits))
     for name, loop in (("nothing depends", loads), ("each epoch depends", counters), ("the last epoch depends", late)):
         calls = [Call("depends", ("8",), loop(count)) for count in (60_000, 15_000)]
-        rows.append(Bound(f"depends where {name}, four times the epochs", MOST_OF_DEPENDS, *calls))
+        rows.append(Bound(f"depends where {name}, four times the epochs", MOST_OF_FOUR_TIMES, *calls))
     return rows
 
 
