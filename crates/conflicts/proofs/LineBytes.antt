@@ -5,7 +5,6 @@ use Rattle.std.proofs.lemmas.Bool.Decides.{nat_tests}
 use Rattle.std.proofs.lemmas.Nat.{div-add-mod'}
 use Rattle.memory_bytes.proofs.SmallFacts.{none_or_some}
 use Rattle.rv32_image.specs.declared.apart.Apart.{Apart}
-use Rattle.rv32_image.specs.declared.machine.Machine.{Machine}
 use Rattle.rv32_image.specs.Image.{LoadedImage}
 use Rattle.rv32_image.specs.Machine.{IsMachineFor, is_line_length}
 use Rattle.rv32_image.specs.Places.{lies_apart, place, place_with}

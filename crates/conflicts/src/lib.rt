@@ -34,5 +34,5 @@ pub use known::Known;
 pub use meeting::{LineTest, Parties};
 pub use scene::Scene;
 pub use spec_history::Kind;
-pub use standing::{Site, site_of};
-pub use with_sites::{explain_with_sites, sites};
+pub use standing::{Site, site_of, sites};
+pub use with_sites::explain_with_sites;

@@ -1,5 +1,5 @@
 //! The explanations of a history, with the places at which its cores stood.
-ghost use Rattle.std.specs.Prelude.{◌≡◌, ◌++◌, ◌∷◌, [], All, IfOk, MatchResult, OnOk, is_some, length, true};
+ghost use Rattle.std.specs.Prelude.{◌≡◌, All, IfOk, MatchResult, is_some, length, true};
 ghost use Rattle.spec_history.specs.Replay.{replay};
 ghost use Rattle.spec_history.specs.View.{IsAuditFault};
 ghost use Rattle.conflicts.specs.Explained.{IsExplained, places_of, violations_before};
@@ -8,7 +8,7 @@ ghost use Rattle.conflicts.specs.Sites as spec;
 use crate::explanation::Explanation;
 use crate::history::{explanation_at, keep};
 use crate::known::Known;
-use crate::standing::{Site, site_of};
+use crate::standing::{Site, keep_site, site_of};
 use rv32_exec::Image;
 use spec_history::{Entry, Flat, Illegal};
 use std::alloc::{AllocError, Global};
@@ -51,29 +51,4 @@ pub fn explain_with_sites(
         }
     }
     Ok((explanations, sites))
-}
-
-/// For each entry of a history, in order, where its core stood before it, if a load or a store came next; else nothing.
-///
-/// An Err is that of `explain_with_sites`.
-pub fn sites(
-    alloc: Global,
-    image: &Image,
-    cores: u32,
-    entries: &[Entry],
-) -> Result<Vec<Option<Site>>, (usize, Illegal)>
-    ensures each { IfOk result (λ found. found.items ≡ spec.sites_before image.now cores entries.now (length entries.now)) }
-    ensures legal { MatchResult result (λ _. is_some (replay image.now cores entries.now) ≡ true)
-        (λ fault. IsAuditFault image.now cores entries.now fault.0 fault.1) }
-{
-    let (_, sites) = explain_with_sites(alloc, image, cores, entries)?;
-    Ok(sites)
-}
-
-/// The list with a site at its end.
-fn keep_site(sites: &mut Vec<Option<Site>>, site: Option<Site>) -> Result<(), AllocError>
-    ensures { OnOk result (sites.new.items ≡ sites.old.items ++ site ∷ []) }
-{
-    sites.push(site)?;
-    Ok(())
 }
