@@ -4,7 +4,7 @@ use Rattle.std.proofs.lemmas.Bool.{cases_eq}
 use Rattle.rv32_image.specs.Image.{LoadedImage, IsImage}
 use Rattle.rv32_exec.specs.Hart.{HartState}
 use Rattle.spec_history.specs.Conflict.{line_count, line_number}
-use Rattle.dependences.specs.declared.caches.Watch.{Watch}
+use Rattle.dependences.specs.declared.watch.Watch.{Watch}
 use Rattle.dependences.specs.Conflict.{first_beside}
 use Rattle.dependences.specs.KeptLines.{IsAllowed, IsLineNoted, LastTwo, MeetsLine, other_before}
 use Rattle.dependences.specs.KeptTouches.{IsInside, Touched, after_store, after_touch}

@@ -1,14 +1,16 @@
 -- The epochs that run in order, those past them, and conflicts among both.
-use Rattle.std.proofs.Common.{◌≡◌, ℕ, ◌+◌, ◌-◌, ◌<◌, ◌≤◌, true, false, List, slice_index, Option, Some, None, refl, sym, ap, subst, ◌∙◌, inl, inr, arith}
+use Rattle.std.proofs.Common.{◌≡◌, ℕ, ◌+◌, ◌-◌, ◌<◌, ◌≤◌, Bool, true, false, List, slice_index, Option, Some, None, refl, sym, ap, subst, ◌∙◌, inl, inr, arith}
 use Rattle.std.proofs.lemmas.Bool.{cases_eq, cases_lt}
 use Rattle.std.proofs.lemmas.Bool.Decides.{nat_tests}
 use Rattle.rv32_image.specs.Image.{LoadedImage}
 use Rattle.rv32_exec.specs.declared.sequential.End.{End}
 use Rattle.rv32_exec.specs.declared.sequential.End.TheVariants.{Done, Exit, Fault}
 use Rattle.rv32_exec.specs.Sequential.{SequentialResult, first_epochs}
+use Rattle.rv32_exec.proofs.Epochs.{first_epochs-none}
 use Rattle.dependences.specs.Paths.{ReadsOutside, Stores}
 use Rattle.dependences.specs.Conflict.{ConflictInOrder, IsInOrder, first_beside, memory_before, memory_by, path_memory, run_memory}
-use Rattle.dependences.specs.Kept.{AreAll, ConflictsBefore, DependsBefore, IsLastWriter, IsLeast, MeetsWriter, is_near}
+use Rattle.dependences.specs.Kept.{AreAll, ConflictsBefore, DependsBefore, IsLastWriter, IsLeast, IsNext, MeetsWriter, is_near}
+use Rattle.dependences.specs.KeptRun.{IsLeft}
 use Rattle.dependences.proofs.InOrder.{all_in_order, low_most}
 use Rattle.dependences.proofs.Showing.{number_done, run_in_order}
 use Rattle.dependences.proofs.Following.{last_most, last_of}
@@ -27,6 +29,21 @@ all_by_last image epoch within order none = record {
 
 pub all_by_end : (image : LoadedImage) → IsInOrder image image.epochs → AreAll image image.epochs
 all_by_end image order = record { most = omega arith; each = λ d low. all_in_order image image.epochs d order (omega (arith, low)); no_more = λ d low is. low }
+
+-- before the first epoch
+pub left_first : (image : LoadedImage) (memory : List ℕ) → memory ≡ image.bytes → IsLeft image 0 memory true
+left_first image memory same = first_epochs-none image ∙ ap (λ (m : List ℕ). let r : SequentialResult = record { end = Done 0; bytes = m } in r) (sym same)
+
+-- after an epoch that has run
+pub left_next : (image : LoadedImage) (epoch : ℕ) (memory : List ℕ) (goes_on : Bool) → epoch < image.epochs → IsInOrder image epoch → IsNext image (epoch + 1) memory goes_on
+    → IsLeft image (epoch + 1) memory goes_on
+left_next image epoch memory true within order next = next
+left_next image epoch memory false within order none = all_by_last image epoch within order none
+
+-- no number of epochs is left
+pub all_left : (image : LoadedImage) (memory : List ℕ) (goes_on : Bool) → IsLeft image image.epochs memory goes_on → AreAll image image.epochs
+all_left image memory true done = all_by_end image (ap (λ (r : SequentialResult). r.end) done)
+all_left image memory false all = all
 
 -- ---- near epochs
 

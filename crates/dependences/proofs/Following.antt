@@ -256,14 +256,21 @@ module _ (image : LoadedImage) (epoch : ℕ) (memory writers : List ℕ) (h : Ha
 
 -- ---- a store
 
-pub unmarked : (writers writers' : List ℕ) (address width writer value a : ℕ) → IsMarked writers writers' address width writer → stored address width value a ≡ None
-    → slice_index writers' a ≡ slice_index writers a
-unmarked writers writers' address width writer value a marked none = elim (cases_lt a address) [
-  | inl below ↦ marked.below a below
+-- a byte that a store leaves as it was lies before or past those of the store
+pub outside : (address width value a : ℕ) → stored address width value a ≡ None → (a < address) ⊎ (address + width ≤ a)
+outside address width value a none = elim (cases_lt a address) [
+  | inl below ↦ inl below
   | inr from ↦ elim (cases_lt a (address + width)) [
     | inl below ↦ (let some = stored_within address width value a from below in absurd cc)
-    | inr past ↦ marked.past a past
+    | inr past ↦ inr past
   ]
+]
+
+pub unmarked : (writers writers' : List ℕ) (address width writer value a : ℕ) → IsMarked writers writers' address width writer → stored address width value a ≡ None
+    → slice_index writers' a ≡ slice_index writers a
+unmarked writers writers' address width writer value a marked none = elim (outside address width value a none) [
+  | inl below ↦ marked.below a below
+  | inr past ↦ marked.past a past
 ]
 
 pub no_both : (e : Effect) (address width value address' width' : ℕ) (signed : Bool) (rd : ℕ) → e ≡ Stops (stop.Store address width value)

@@ -34,6 +34,7 @@ pub mod Running
 -- The pieces of memory in which epochs store.
 pub mod Noting
 -- Lines of the caches: who stored in them, and who reads in them.
+pub mod Owning
 pub mod Lining
 mod Counting
 mod Sharing

@@ -1,5 +1,5 @@
 -- One epoch and the lines of the caches: in which it stores, and which it reads in which others have stored.
-use Rattle.std.proofs.Common.{◌≡◌, ◌≢◌, ◌⊎◌, ℕ, zero, suc, ◌+◌, ◌-◌, ◌==◌, ◌<◌, ◌≤◌, Bool, true, false, cond, List, length, slice_index, Option, Some, None, refl, sym, ap, subst, ◌∙◌, inl, inr, arith, add-one}
+use Rattle.std.proofs.Common.{◌≡◌, ◌≢◌, ◌⊎◌, ℕ, zero, suc, ◌+◌, ◌-◌, ◌/◌, ◌==◌, ◌<◌, ◌≤◌, Bool, true, false, cond, List, length, slice_index, Option, Some, None, refl, sym, ap, subst, ◌∙◌, inl, inr, arith, add-one}
 use Rattle.std.proofs.lemmas.Bool.{cases_eq, cases_lt}
 use Rattle.std.proofs.lemmas.Bool.Decides.{nat_tests}
 use Rattle.rv32_image.specs.Image.{LoadedImage}
@@ -16,10 +16,11 @@ use Rattle.spec_history.specs.Conflict.{line_number}
 use Rattle.spec_history.proofs.OneEntry.Accesses.{load_counts}
 use Rattle.dependences.specs.Paths.{ReadsOutside, Stores}
 use Rattle.dependences.specs.Conflict.{IsInOrder, LineConflictInOrder, first_beside, run_memory}
+use Rattle.dependences.specs.KeptOwn.{HasStored}
 use Rattle.dependences.specs.KeptLines.{AreLinesKept, AreStored, IsLastOf, LastTwo, Lines, MeetsLine, MeetsNone, StoresInLine, other_before}
 use Rattle.dependences.specs.KeptWatch.{InLines}
 use Rattle.dependences.proofs.Paths.{at_start, covered, either, load_after, neither, past_load, past_store, path_stores, reads_there, start_after, store_after}
-use Rattle.dependences.proofs.Following.{all_loaded, all_stored, unmarked}
+use Rattle.dependences.proofs.Following.{all_loaded, all_stored, outside}
 use Rattle.dependences.proofs.Outside.{OnPath, read_by_load, read_by_store, seen_now}
 use Rattle.dependences.proofs.SmallFacts.{either_some}
 
@@ -92,7 +93,8 @@ lines_start image cores epoch memory s long kept = record {
   own_long = kept.own;
   lines = kept.lines;
   mine = λ a byte is. absurd cc;
-  others = λ a none. kept.owner a;
+  others = λ a none has. let owner = kept.owner (a / 16) in let same = has.0 in omega (arith, owner, same);
+  owner = λ block. let low = kept.owner block in omega (arith, low);
   writer = λ line.
       subst (λ w. IsLastOf (StoresInLine image cores line) epoch w) (sym (writer_other s.two epoch line (not_noted image cores epoch line s kept))) (kept.writer line);
   noted = λ line is. absurd (not_noted image cores epoch line s kept is);
@@ -103,7 +105,7 @@ lines_start image cores epoch memory s long kept = record {
 module _ (image : LoadedImage) (cores epoch : ℕ) (memory now : List ℕ) (s : Lines) (h : HartState) (x : InLines image cores epoch memory now s h) where
   -- ---- a load
 
-  foreign : (a : ℕ) → slice_index s.own a ≢ epoch + 1 → (o : Option ℕ) → x.stored a ≡ o → x.stored a ≡ None
+  foreign : (a : ℕ) → (HasStored s.own epoch a → ⊥) → (o : Option ℕ) → x.stored a ≡ o → x.stored a ≡ None
   foreign a other (Some byte) is = absurd (other (x.mine a byte is))
   foreign a other None is = is
 
@@ -139,12 +141,11 @@ module _ (image : LoadedImage) (cores epoch : ℕ) (memory now : List ℕ) (s : 
       → first_beside cores epoch ≤ d → d < epoch → StoresInLine image cores (line_number image a) d → ⊥
   unmet_by address width a d unmet (from, below, none) first low p =
       let place : address + (a - address) ≡ a = omega (arith, from) in
-      let owner = x.others a none in
       let most : other_before s.two epoch (line_number image a) ≤ first_beside cores epoch = elim (cases_lt (first_beside cores epoch) (other_before s.two epoch (line_number image a))) [
         | inl less ↦ absurd (unmet (record {
           i = a - address;
           within = omega (arith, from, below);
-          foreign = subst (λ b. slice_index s.own b ≢ epoch + 1) (sym place) (omega (arith, owner));
+          foreign = subst (λ b. HasStored s.own epoch b → ⊥) (sym place) (x.others a none);
           written = subst (λ b. first_beside cores epoch < other_before s.two epoch (line_number image b)) (sym place) less;
         }))
         | inr most ↦ most
@@ -163,6 +164,7 @@ module _ (image : LoadedImage) (cores epoch : ℕ) (memory now : List ℕ) (s : 
         lines = x.lines;
         mine = x.mine;
         others = x.others;
+        owner = x.owner;
         writer = x.writer;
         noted = x.noted;
         all = x.all;
@@ -175,10 +177,15 @@ module _ (image : LoadedImage) (cores epoch : ℕ) (memory now : List ℕ) (s : 
   -- ---- a store
 
   mine_by : (s' : Lines) (address width value a byte : ℕ) → AreStored image s s' epoch address width → (o : Option ℕ) → stored address width value a ≡ o
-      → ((b : ℕ) × (stored address width value a ≡ Some b)) ⊎ (x.stored a ≡ Some byte) → slice_index s'.own a ≡ epoch + 1
-  mine_by s' address width value a byte are (Some b) is either = let within = covered address width value a b is in are.marked.here a within.0 within.1
+      → ((b : ℕ) × (stored address width value a ≡ Some b)) ⊎ (x.stored a ≡ Some byte) → HasStored s'.own epoch a
+  mine_by s' address width value a byte are (Some b) is either =
+      let within = covered address width value a b is in
+      let from = within.0 in
+      let below = within.1 in
+      let place : address + (a - address) ≡ a = omega (arith, from) in
+      subst (HasStored s'.own epoch) place (are.own.here (a - address) (omega (arith, from, below)))
   mine_by s' address width value a byte are None is (inl now) = let some = now.1 in absurd cc
-  mine_by s' address width value a byte are None is (inr before) = unmarked s.own s'.own address width (epoch + 1) value a are.marked is ∙ x.mine a byte before
+  mine_by s' address width value a byte are None is (inr before) = are.own.still a (x.mine a byte before)
 
   all_by : (s' : Lines) (address width value a byte : ℕ) → AreStored image s s' epoch address width
       → ((b : ℕ) × (stored address width value a ≡ Some b)) ⊎ (x.stored a ≡ Some byte) → slice_index s'.two.last (line_number image a) ≡ epoch + 1
@@ -210,12 +217,16 @@ module _ (image : LoadedImage) (cores epoch : ℕ) (memory now : List ℕ) (s : 
     stored = joined (stored address width value) x.stored;
     at = past_store image epoch memory h x.stored address width value x.at is;
     is = store_after image epoch memory h x.stored address width value x.at is ∙ ap (λ m. with_number m address width value) x.is;
-    own_long = are.own_long ∙ x.own_long;
+    own_long = record { by = are.own.by_long ∙ x.own_long.by; bits = are.own.bits_long ∙ x.own_long.bits };
     lines = record { last = are.lines.last_long ∙ x.lines.last; before = are.lines.before_long ∙ x.lines.before };
     mine = λ a byte some. mine_by s' address width value a byte are (stored address width value a) refl (either (stored address width value a) (x.stored a) byte some);
     others = λ a none.
         let parts = neither (stored address width value a) (x.stored a) none in
-        rw (unmarked s.own s'.own address width (epoch + 1) value a are.marked parts.0) (x.others a parts.1);
+        λ has. x.others a parts.1 (are.own.others a (outside address width value a parts.0) has);
+    owner = λ block. elim (are.own.by block) [
+      | inl same ↦ (let low = x.owner block in omega (arith, same, low))
+      | inr own ↦ omega (arith, own)
+    ];
     writer = λ line. rw (are.lines.other line) (x.writer line);
     noted = λ line noted. noted_by s' address width value line are noted;
     all = λ a byte some. all_by s' address width value a byte are (either (stored address width value a) (x.stored a) byte some);
@@ -223,10 +234,6 @@ module _ (image : LoadedImage) (cores epoch : ℕ) (memory now : List ℕ) (s : 
   }
 
   -- ---- the end
-
-  owner_by : (a : ℕ) (o : Option ℕ) → x.stored a ≡ o → slice_index s.own a ≤ epoch + 1
-  owner_by a (Some byte) is = let mine = x.mine a byte is in omega (arith, mine)
-  owner_by a None is = let low = x.others a is in omega (arith, low)
 
   none_here : HasStopped (after_stop (next_event image h).now x.at.after (next_event image h).at) → memory ≡ run_memory image cores epoch → (line : ℕ)
       → slice_index s.two.last line ≢ epoch + 1 → (p : StoresInLine image cores line epoch) → (o : Option ℕ) → x.stored p.at ≡ o → ⊥
@@ -251,7 +258,7 @@ module _ (image : LoadedImage) (cores epoch : ℕ) (memory now : List ℕ) (s : 
 
   pub lines_kept : HasStopped (after_stop (next_event image h).now x.at.after (next_event image h).at) → memory ≡ run_memory image cores epoch
       → AreLinesKept image cores (epoch + 1) s
-  lines_kept stopped same = record { own = x.own_long; lines = x.lines; owner = λ a. owner_by a (x.stored a) refl; writer = λ line. writer_on stopped same line }
+  lines_kept stopped same = record { own = x.own_long; lines = x.lines; owner = x.owner; writer = λ line. writer_on stopped same line }
 
   pub meets_none : HasStopped (after_stop (next_event image h).now x.at.after (next_event image h).at) → memory ≡ run_memory image cores epoch → MeetsNone image cores epoch
   meets_none stopped same a d reads first low p =

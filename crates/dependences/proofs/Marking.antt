@@ -1,7 +1,6 @@
 -- Something beside places, of which those behind the last that was marked have none.
 use Rattle.std.proofs.Common.{◌≡◌, ℕ, zero, suc, ◌-◌, ◌<◌, ◌≤◌, List, [], ◌∷◌, ◌++◌, length, replicate, set, slice_index, slice_index_or, refl, sym, ap, ◌∙◌, arith}
 use Rattle.std.proofs.lemmas.List.{ext_get_or, length-append, length-replicate, length-set, set-append_left}
-use Rattle.dependences.specs.Kept.{IsMarked}
 use Rattle.dependences.specs.KeptMarks.{filled}
 
 pub none_at : {A : Type 0} (n k : ℕ) (none : A) → slice_index_or (replicate n none) k none ≡ none
@@ -32,12 +31,3 @@ filled_put old mid size place number short short' there same =
     let alike : filled 0 mid size ≡ filled 0 old size = ext_get_or 0 (filled 0 mid size) (filled 0 old size) (long' ∙ sym long) (λ a below. filled_at mid size a ∙ (same a ∙ sym (filled_at old size a))) in
     ap (λ n. set mid place number ++ replicate (size - n) 0) (length-set mid place number)
     ∙ (sym (set-append_left mid (replicate (size - length mid) 0) place number there) ∙ ap (λ (l : List ℕ). set l place number) alike)
-
--- the bytes of an access are marked
-pub filled_marked : (old mid new : List ℕ) (size address width number : ℕ) → ((a : ℕ) → slice_index mid a ≡ slice_index old a) → IsMarked mid new address width number
-    → IsMarked (filled 0 old size) (filled 0 new size) address width number
-filled_marked old mid new size address width number same marked = record {
-  here = λ a from below. filled_at new size a ∙ marked.here a from below;
-  below = λ a low. filled_at new size a ∙ (marked.below a low ∙ (same a ∙ sym (filled_at old size a)));
-  past = λ a high. filled_at new size a ∙ (marked.past a high ∙ (same a ∙ sym (filled_at old size a)));
-}

@@ -1,5 +1,5 @@
 -- What is kept of an epoch while it runs in order, at any of its harts.
-use Rattle.std.proofs.Common.{◌≡◌, ◌⊎◌, ℕ, ◌+◌, ◌-◌, ◌≤◌, Bool, false, List, Option, Some, None, slice_index, refl, sym, ap, subst, ◌∙◌, ◌∷◌, [], inl, inr, arith}
+use Rattle.std.proofs.Common.{◌≡◌, ◌⊎◌, ℕ, ◌+◌, ◌-◌, ◌<◌, ◌≤◌, Bool, false, List, length, length-append, ◌++◌, Option, Some, None, slice_index, refl, sym, ap, subst, ◌∙◌, ◌∷◌, [], inl, inr, arith}
 use Rattle.memory_bytes.specs.Bytes.{number_at, with_number}
 use Rattle.rv32_image.specs.Image.{LoadedImage}
 use Rattle.rv32_exec.specs.declared.stop.Stop.{Stop}
@@ -17,15 +17,16 @@ use Rattle.rv32_exec.proofs.Runs.{next_event-executes, next_event-stops}
 use Rattle.dependences.specs.declared.flow.Dependence.{Dependence}
 use Rattle.dependences.specs.declared.flow.Flow.{Flow}
 use Rattle.dependences.specs.Conflict.{memory_before}
-use Rattle.dependences.specs.Kept.{AreKept, CanRun, IsLeast, IsNext, behind, load_behind, nearer, next_runs}
+use Rattle.dependences.specs.Kept.{AreAll, AreKept, CanRun, IsLeast, IsNext, behind, load_behind, nearer, next_runs}
 use Rattle.dependences.specs.KeptStores.{AreMarked, AreStoresKept, IsNearest, IsNearestByte, IsNoted, Stores, nearest_after, noted, noted_at}
 use Rattle.dependences.specs.Flow.{AreDependences}
-use Rattle.dependences.specs.Lengths.{Lasts}
+use Rattle.dependences.specs.Lengths.{AreLengths, Lasts}
 use Rattle.dependences.specs.Nearest.{Depends, IsLaterAt, IsNearestLater}
-use Rattle.dependences.specs.KeptRun.{IsLoadKept, Flowing, Following, IsFlowKept, IsKeptUpTo, IsRight}
-use Rattle.dependences.proofs.Following.{following_load, following_start, following_store, kept_after, runs_in_order, writers_below}
-use Rattle.dependences.proofs.Flowing.{flowing_load, flowing_path, flowing_start, flowing_store, kept_on}
-use Rattle.dependences.proofs.Outside.{done_before, lasts, next_so}
+use Rattle.dependences.specs.Nearest as near
+use Rattle.dependences.specs.KeptRun.{IsLoadKept, Flowing, Following, IsFlowKept, IsKeptUpTo, IsRight, IsRunKept}
+use Rattle.dependences.proofs.Following.{following_load, following_start, following_store, kept_after, nearest_of, runs_in_order, writers_below}
+use Rattle.dependences.proofs.Flowing.{all_dependences, flowing_load, flowing_path, flowing_start, flowing_store, kept_on}
+use Rattle.dependences.proofs.Outside.{done_before, lasts, lasts_more, next_so}
 use Rattle.dependences.proofs.Writers.{IsBehind, behind_is, is_behind, least_nearer, least_some, load_least}
 
 -- ---- between loads and stores
@@ -255,6 +256,31 @@ started_at keeps image flow epoch memory is run before found list stores writers
     later = later;
   };
 }
+
+-- ---- the run
+
+module _ {F : Type 0} (keeps : F → List Dependence → Type 0) (image : LoadedImage) where
+  -- where no epoch has run
+  pub run_begun : (flow : Flow F) (lengths : List ℕ) → IsFlowKept keeps image 0 flow → lengths ≡ [] → IsRunKept keeps image 0 flow lengths
+  run_begun flow lengths kept none = record { kept = kept; long = ap length none; each = λ d low. absurd (omega (arith, low)) }
+
+  -- one epoch more has run
+  pub run_more : (epoch count : ℕ) (old : Flow F) (new : Flow F) (lengths lengths' : List ℕ) → IsRunKept keeps image epoch old lengths → IsFlowKept keeps image (epoch + 1) new → Lasts image epoch count
+      → lengths' ≡ lengths ++ count ∷ [] → IsRunKept keeps image (epoch + 1) new lengths'
+  run_more epoch count old new lengths lengths' was kept lasts is =
+      let sum = length-append lengths (count ∷ []) in
+      record { kept = kept; long = ap length is ∙ omega (arith, sum, was.long); each = lasts_more image epoch count lengths lengths' is was.long lasts was.each }
+
+  -- all epochs have run
+  module _ (ran : ℕ) (flow : Flow F) (lengths : List ℕ) (all : AreAll image ran) (kept : IsRunKept keeps image ran flow lengths) where
+    pub run_found : (list : List Dependence) × keeps flow.found list × AreDependences image list × IsNearestLater list flow.nearest flow.later
+    run_found = let k = kept.kept in (k.found, k.list, all_dependences image ran k.found all k.stores.list, k.later)
+
+    pub run_lengths : AreLengths image lengths
+    run_lengths = record { all = subst (AreAll image) (sym kept.long) all; each = λ d low. kept.each d (subst (λ n. d < n) kept.long low) }
+
+    pub run_nearest : near.IsNearest image flow.nearest
+    run_nearest = nearest_of image ran flow.nearest (λ earlier later depends. all.no_more later depends.within depends.in_order) kept.kept.writers.least
 
 -- ---- how near
 

@@ -1,5 +1,5 @@
 -- What is kept of the lines of the caches while an epoch runs, at any of its harts.
-use Rattle.std.proofs.Common.{◌≡◌, ℕ, ◌+◌, ◌<◌, Bool, true, false, true≢false, List, ◌∷◌, [], Some, slice_index, refl, sym, ap, subst, ◌∙◌, arith}
+use Rattle.std.proofs.Common.{◌≡◌, ℕ, ◌+◌, ◌<◌, Bool, true, false, true≢false, List, ◌∷◌, [], Option, Some, None, slice_index, refl, sym, ap, subst, ◌∙◌, arith}
 use Rattle.memory_bytes.specs.Bytes.{number_at, with_number}
 use Rattle.memory_bytes.proofs.SmallFacts.{some_wide}
 use Rattle.rv32_image.specs.Image.{LoadedImage}
@@ -16,13 +16,15 @@ use Rattle.rv32_exec.specs.Laws.{HasStopped}
 use Rattle.rv32_exec.proofs.Accesses.{stop_of_effect}
 use Rattle.rv32_exec.proofs.Runs.{next_event-executes, next_event-stops}
 use Rattle.spec_history.specs.Conflict.{line_number}
+use Rattle.dependences.specs.declared.caches.CacheConflict.{CacheConflict}
 use Rattle.dependences.specs.declared.caches.CacheConflict.TheVariants.{Buffer, Line}
-use Rattle.dependences.specs.declared.caches.Watch.{Watch}
+use Rattle.dependences.specs.declared.watch.Watch.{Watch}
 use Rattle.dependences.specs.Conflict.{IsInOrder, first_beside, run_memory}
 use Rattle.dependences.specs.Kept.{CanRun, IsNext, next_runs}
 use Rattle.dependences.specs.KeptLines.{AreLinesKept, AreStored, IsAllowed, Lines, MeetsLine, MeetsNone}
 use Rattle.dependences.specs.KeptTouches.{AreTouches, AreTouchesKept, IsFound, Touched, after_store, after_touch}
-use Rattle.dependences.specs.KeptWatch.{InBuffers, InLines, IsWatchKept, IsWatched, IsWatchedUpTo}
+use Rattle.dependences.specs.KeptWatch.{AreAtHand, InBuffers, InLines, IsWatchKept, IsWatched, IsWatchedUpTo, begun, found_by}
+use Rattle.dependences.proofs.AtHand.{none_at_hand}
 use Rattle.dependences.proofs.Buffering.{buffer_conflict, buffers_kept, buffers_load, buffers_start, buffers_store, touched_long}
 use Rattle.dependences.proofs.Lining.{line_conflict, lines_kept, lines_load, lines_path, lines_start, lines_store, meets_none}
 use Rattle.dependences.proofs.Outside.{next_so}
@@ -236,3 +238,64 @@ watch_met image watch cores epoch h memory {was} is fixed x met =
     let number : watch.epoch ≡ was = cc in
     let count : watch.cores ≡ cores = cc in
     subst (λ n. IsFound image cores (Some (Line n))) (number ∙ is) (subst (λ c. IsFound image c (Some (Line watch.epoch))) count (x.met met))
+
+-- what is found of an epoch that has come to its end or fault
+pub record IsWatchDone (image : LoadedImage) (watch : Watch) (cores epoch : ℕ) (h : HartState) (at : Stop) (first memory : List ℕ) : Type 0 where
+  pub found : IsFound image cores (found_by watch)
+  pub none : found_by watch ≡ None → MeetsNone image cores epoch
+  pub kept : found_by watch ≡ None → IsWatchKept image cores watch (epoch + 1)
+  pub next : found_by watch ≡ None → first_epochs image epoch ≡ record { end = end.Done epoch; bytes = first } → IsNext image (epoch + 1) memory (next_runs image h at)
+
+one_or_none : (conflict : CacheConflict) (found : Option CacheConflict) → found ≡ Some conflict → found ≡ None → ⊥
+one_or_none conflict found one none = cc
+
+module _ (image : LoadedImage) (watch : Watch) (cores epoch : ℕ) (h : HartState) (at : Stop) (first memory : List ℕ) (number : watch.epoch ≡ epoch) (count : watch.cores ≡ cores)
+    (same : first ≡ run_memory image cores epoch) (x : IsWatched image watch h memory) (stops : hart_effect image h ≡ Stops at) (no_access : IsNoAccess at) where
+  fixed : watch.cores ∷ watch.epoch ∷ [] ≡ cores ∷ epoch ∷ []
+  fixed = rw (count, number) refl
+
+  unmet : watch.has_met ≡ false → IsWatchEnded image watch cores epoch h at first memory
+  unmet none = watch_ended image watch cores epoch h at first memory refl fixed same x none stops no_access
+
+  done_by : (met full : Bool) → watch.has_met ≡ met → watch.touches.full ≡ full → IsWatchDone image watch cores epoch h at first memory
+  done_by true full met is = record {
+    found = rw (met, number) (watch_met image watch cores epoch h memory refl fixed x met);
+    none = λ found. absurd (one_or_none (Line watch.epoch) (found_by watch) (rw met refl) found);
+    kept = λ found. absurd (one_or_none (Line watch.epoch) (found_by watch) (rw met refl) found);
+    next = λ found. absurd (one_or_none (Line watch.epoch) (found_by watch) (rw met refl) found);
+  }
+  done_by false true met is = record {
+    found = rw (met, is, number) (let end = unmet met in end.found is);
+    none = λ found. absurd (one_or_none (Buffer watch.epoch) (found_by watch) (rw (met, is) refl) found);
+    kept = λ found. absurd (one_or_none (Buffer watch.epoch) (found_by watch) (rw (met, is) refl) found);
+    next = λ found. absurd (one_or_none (Buffer watch.epoch) (found_by watch) (rw (met, is) refl) found);
+  }
+  done_by false false met is =
+      let end = unmet met in
+      record {
+        found = rw (met, is) tt;
+        none = λ found. end.none;
+        kept = λ found. end.kept is;
+        next = λ found. end.next;
+      }
+
+  watch_done_at : IsWatchDone image watch cores epoch h at first memory
+  watch_done_at = done_by watch.has_met watch.touches.full refl refl
+
+-- of one that began after these
+pub watch_done : (image : LoadedImage) (watch : Watch) (cores epoch : ℕ) (h : HartState) (at : Stop) (first memory : List ℕ) (old start : Watch) → start ≡ begun old epoch → old.cores ≡ cores
+    → watch.cores ∷ watch.epoch ∷ [] ≡ start.cores ∷ start.epoch ∷ [] → first ≡ run_memory image cores epoch → IsWatched image watch h memory → hart_effect image h ≡ Stops at → IsNoAccess at
+    → IsWatchDone image watch cores epoch h at first memory
+watch_done image watch cores epoch h at first memory old start is count fixed same x stops no_access =
+    let number : watch.epoch ≡ start.epoch = cc in
+    let counted : watch.cores ≡ start.cores = cc in
+    watch_done_at image watch cores epoch h at first memory (number ∙ ap (λ (w : Watch). w.epoch) is) (counted ∙ (ap (λ (w : Watch). w.cores) is ∙ count)) same x stops no_access
+
+-- the notes are right where an epoch begins
+pub watch_begun : (image : LoadedImage) (old start : Watch) (cores epoch : ℕ) (memory : List ℕ) → start ≡ begun old epoch → CanRun image epoch memory → IsInOrder image (first_beside cores epoch)
+    → memory ≡ run_memory image cores epoch → IsWatchKept image cores old epoch → IsWatched image start (start_of image epoch) memory × AreAtHand start
+watch_begun image old start cores epoch memory is run starts same kept =
+    subst (λ (w : Watch). IsWatched image w (start_of image epoch) memory × AreAtHand w) (sym is) (
+      watch_started image (begun old epoch) cores epoch memory kept.cores_are refl refl run starts same kept.lines kept.touches,
+      none_at_hand (begun old epoch) refl refl,
+    )

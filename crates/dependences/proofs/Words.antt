@@ -8,6 +8,7 @@ use Rattle.rv32_image.specs.Places.{place}
 use Rattle.rv32_image.proofs.Bounds.{by_length}
 use Rattle.rv32_image.proofs.Places.{place-aligned, place-word}
 use Rattle.spec_history.specs.Conflict.{line_number}
+use Rattle.dependences.specs.KeptOwn.{HasStored}
 use Rattle.dependences.specs.KeptLines.{AreLinesMarked, AreLinesNoted, IsLineNoted, LastTwo, Lines, MeetsLine, other_before}
 
 word_in : (n p width i : ℕ) → is_line_length n ≡ true → IsWidth width → p % width ≡ 0 → i < width → (p + i) / n ≡ p / n
@@ -46,7 +47,7 @@ module _ (image : LoadedImage) (is : IsImage image) (address width line : ℕ) (
     others = λ l none. others l (not_line l none);
   }
 
-  pub meets_word : (s : Lines) (epoch first i : ℕ) → i < width → slice_index s.own (address + i) ≢ epoch + 1 → first < other_before s.two epoch line
+  pub meets_word : (s : Lines) (epoch first i : ℕ) → i < width → (HasStored s.own epoch (address + i) → ⊥) → first < other_before s.two epoch line
       → MeetsLine image s epoch first address width
   meets_word s epoch first i low foreign written = record {
     i = i;

@@ -5,7 +5,7 @@ use Rattle.rv32_image.specs.Image.{LoadedImage}
 use Rattle.spec_history.specs.Conflict.{line_number, line_count}
 use Rattle.dependences.specs.Paths.{ReadsOutside}
 use Rattle.dependences.specs.Conflict.{StoresIn, first_beside, run_memory}
-use Rattle.dependences.specs.Kept.{IsMarked}
+use Rattle.dependences.specs.KeptOwn.{AreLong, AreOwned, HasStored, OwnBytes}
 
 -- of the epochs before this one, the last of this kind, and 1; 0 where there is none
 abbrev pub IsLastOf : (ℕ → Type 0) → ℕ → ℕ → Type 0
@@ -21,9 +21,9 @@ pub record LastTwo : Type 0 where
   pub last : List ℕ
   pub before : List ℕ
 
--- of each byte the last epoch that stored it, and 1; and the last that stored in each line
+-- which bytes the epoch that runs has stored; and the last that stored in each line
 pub record Lines : Type 0 where
-  pub own : List ℕ
+  pub own : OwnBytes
   pub two : LastTwo
 
 -- the last epoch that did so in the line, and 1, this one aside
@@ -40,9 +40,9 @@ pub record AreLines (image : LoadedImage) (s : LastTwo) : Type 0 where
 
 -- it is kept what the epochs before this one stored
 pub record AreLinesKept (image : LoadedImage) (cores epoch : ℕ) (s : Lines) : Type 0 where
-  pub own : length s.own ≡ image.size
+  pub own : AreLong s.own image.size
   pub lines : AreLines image s.two
-  pub owner : (a : ℕ) → slice_index s.own a ≤ epoch
+  pub owner : (block : ℕ) → slice_index s.own.by block ≤ epoch
   pub writer : (line : ℕ) → IsLastOf (StoresInLine image cores line) epoch (slice_index s.two.last line)
 
 -- this epoch has done so in this line now
@@ -74,15 +74,14 @@ pub record AreLinesMarked (image : LoadedImage) (old new : List ℕ) (epoch addr
 
 -- an epoch stores these bytes
 pub record AreStored (image : LoadedImage) (old new : Lines) (epoch address width : ℕ) : Type 0 where
-  pub marked : IsMarked old.own new.own address width (epoch + 1)
-  pub own_long : length new.own ≡ length old.own
+  pub own : AreOwned old.own new.own epoch address width
   pub lines : AreLinesNoted image old.two new.two epoch address width
 
 -- a byte of these, which the epoch has not stored, lies in a line in which this epoch or a later one has
 pub record MeetsLine (image : LoadedImage) (s : Lines) (epoch first address width : ℕ) : Type 0 where
   pub i : ℕ
   pub within : i < width
-  pub foreign : slice_index s.own (address + i) ≢ epoch + 1
+  pub foreign : HasStored s.own epoch (address + i) → ⊥
   pub written : first < other_before s.two epoch (line_number image (address + i))
 
 -- the epoch reads no byte from outside in a line in which an epoch beside it stores

@@ -1,17 +1,19 @@
 -- What the code keeps of an epoch while it runs in order.
-use Rattle.std.specs.Prelude.{◌≡◌, ℕ, ◌+◌, ◌<◌, ◌≤◌, false, List, length, Option, Some, None, slice_index}
+use Rattle.std.specs.Prelude.{◌≡◌, ℕ, ◌+◌, ◌<◌, ◌≤◌, Bool, true, false, List, length, Option, Some, None, slice_index}
 use Rattle.memory_bytes.specs.Maps.{over}
 use Rattle.rv32_image.specs.Image.{LoadedImage, IsImage}
 use Rattle.rv32_exec.specs.Hart.{HartState, start_of}
 use Rattle.rv32_exec.specs.NextEvent.{next_event}
-use Rattle.rv32_exec.specs.Sequential.{Runs, after_steps}
+use Rattle.rv32_exec.specs.declared.sequential.End.TheVariants.{Done}
+use Rattle.rv32_exec.specs.Sequential.{Runs, after_steps, first_epochs}
 use Rattle.spec_history.specs.Laws.{Holds}
 use Rattle.dependences.specs.declared.flow.Dependence.{Dependence}
 use Rattle.dependences.specs.declared.flow.Flow.{Flow}
 use Rattle.dependences.specs.Paths.{StoresAt}
 use Rattle.dependences.specs.Conflict.{IsInOrder, memory_before}
 use Rattle.dependences.specs.Nearest.{Depends, IsNearestLater}
-use Rattle.dependences.specs.Kept.{AreKept, DependsBefore, IsLastWriter, IsLeast}
+use Rattle.dependences.specs.Lengths.{Lasts}
+use Rattle.dependences.specs.Kept.{AreAll, AreKept, DependsBefore, IsLastWriter, IsLeast}
 use Rattle.dependences.specs.KeptStores.{AreBefore, AreLong, AreStoresKept, IsNearestByte, IsStoredLast, Stores, nearest_after, noted_at}
 
 -- the epoch is on its path over this memory: it has come to this hart, and these are the bytes that it has stored
@@ -66,6 +68,17 @@ pub record IsFlowKept {F : Type 0} (keeps : F → List Dependence → Type 0) (i
   pub writers : AreKept image epoch flow.stores.writers flow.nearest
   pub later : IsNearestLater found flow.nearest flow.later
   pub room : flow.is_full ≡ false
+
+-- and how many instructions each of them executes
+pub record IsRunKept {F : Type 0} (keeps : F → List Dependence → Type 0) (image : LoadedImage) (epoch : ℕ) (flow : Flow F) (lengths : List ℕ) : Type 0 where
+  pub kept : IsFlowKept keeps image epoch flow
+  pub long : length lengths ≡ epoch
+  pub each : (d : ℕ) → d < epoch → Lasts image d (slice_index lengths d)
+
+-- the epochs before this one are done, and it runs over this memory; or no more run in order
+abbrev pub IsLeft : LoadedImage → ℕ → List ℕ → Bool → Type 0
+IsLeft image epoch memory true = first_epochs image epoch ≡ record { end = Done epoch; bytes = memory }
+IsLeft image epoch memory false = AreAll image epoch
 
 -- ---- at any hart
 

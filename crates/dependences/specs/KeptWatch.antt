@@ -1,14 +1,16 @@
 -- What the code keeps of the lines of the caches while an epoch runs.
-use Rattle.std.specs.Prelude.{◌≡◌, ◌⊎◌, ℕ, ◌+◌, ◌<◌, ◌≤◌, true, false, List, length, Option, Some, None, slice_index}
+use Rattle.std.specs.Prelude.{◌≡◌, ◌⊎◌, ℕ, ◌+◌, ◌<◌, ◌≤◌, Bool, true, false, List, Option, Some, None, slice_index}
 use Rattle.rv32_image.specs.Image.{LoadedImage, IsImage}
 use Rattle.rv32_exec.specs.Hart.{HartState}
 use Rattle.rv32_exec.specs.NextEvent.{next_event}
 use Rattle.spec_history.specs.Conflict.{line_count, line_number}
-use Rattle.dependences.specs.declared.caches.CacheConflict.TheVariants.{Line}
-use Rattle.dependences.specs.declared.caches.Watch.{Watch}
+use Rattle.dependences.specs.declared.caches.CacheConflict.{CacheConflict}
+use Rattle.dependences.specs.declared.caches.CacheConflict.TheVariants.{Buffer, Line}
+use Rattle.dependences.specs.declared.watch.Watch.{Watch}
 use Rattle.dependences.specs.Paths.{LoadsAt, ReadsOutside, StoresAt}
 use Rattle.dependences.specs.Conflict.{IsInOrder, first_beside, run_memory}
 use Rattle.dependences.specs.Shared.{TouchesIn}
+use Rattle.dependences.specs.KeptOwn.{AreLong, HasStored}
 use Rattle.dependences.specs.KeptLines.{AreLines, AreLinesKept, IsLastOf, Lines, StoresInLine, other_before}
 use Rattle.dependences.specs.KeptTouches.{AreShares, AreTouches, AreTouchesKept, IsFound, StoresBefore, Touched, TouchesBefore}
 use Rattle.dependences.specs.KeptRun.{IsAt}
@@ -19,10 +21,11 @@ pub record InLines (image : LoadedImage) (cores epoch : ℕ) (memory now : List 
   pub stored : ℕ → Option ℕ
   pub at : IsAt image epoch memory h stored
   pub is : at.after ≡ now
-  pub own_long : length s.own ≡ image.size
+  pub own_long : AreLong s.own image.size
   pub lines : AreLines image s.two
-  pub mine : (a byte : ℕ) → stored a ≡ Some byte → slice_index s.own a ≡ epoch + 1
-  pub others : (a : ℕ) → stored a ≡ None → slice_index s.own a ≤ epoch
+  pub mine : (a byte : ℕ) → stored a ≡ Some byte → HasStored s.own epoch a
+  pub others : (a : ℕ) → stored a ≡ None → HasStored s.own epoch a → ⊥
+  pub owner : (block : ℕ) → slice_index s.own.by block ≤ epoch + 1
   pub writer : (line : ℕ) → IsLastOf (StoresInLine image cores line) epoch (other_before s.two epoch line)
   pub noted : (line : ℕ) → slice_index s.two.last line ≡ epoch + 1 → (a : ℕ) × (byte : ℕ) × (line_number image a ≡ line) × (stored a ≡ Some byte)
   pub all : (a byte : ℕ) → stored a ≡ Some byte → slice_index s.two.last (line_number image a) ≡ epoch + 1
@@ -76,6 +79,20 @@ pub record IsWatchKept (image : LoadedImage) (cores : ℕ) (watch : Watch) (epoc
   pub cores_are : watch.cores ≡ cores
   pub lines : AreLinesKept image cores epoch watch.lines
   pub touches : AreTouchesKept image cores epoch watch.touches
+
+-- an epoch begins, and no line is at hand
+abbrev pub begun : Watch → ℕ → Watch
+begun watch epoch = record { cores = watch.cores; epoch = epoch; lines = watch.lines; touches = watch.touches; has_met = false; quiet = 0; stored = 0 }
+
+-- the conflict of an epoch that has met a line of another; or in which a buffer was too small
+abbrev pub conflict_by : Bool → Bool → ℕ → Option CacheConflict
+conflict_by true full epoch = Some (Line epoch)
+conflict_by false true epoch = Some (Buffer epoch)
+conflict_by false false epoch = None
+
+-- in what the epoch that has run conflicts with an earlier one
+abbrev pub found_by : Watch → Option CacheConflict
+found_by watch = conflict_by watch.has_met watch.touches.full watch.epoch
 
 -- ---- at any hart
 

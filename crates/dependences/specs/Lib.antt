@@ -21,6 +21,7 @@ pub mod KeptWords
 pub mod KeptLast
 pub mod KeptRun
 pub mod KeptPairs
+pub mod KeptOwn
 pub mod KeptLines
 pub mod KeptTouches
 pub mod KeptWatch

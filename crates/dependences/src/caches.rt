@@ -12,11 +12,8 @@ ghost use Rattle.dependences.specs.KeptWatch.{IsWatchKept};
 use crate::alone::run_between;
 use crate::beside::first_beside;
 use crate::ends::next_runs;
-use crate::epoch::Epoch;
-use crate::last_two::line_of;
-use crate::lines::Lines;
-use crate::touches::Touches;
-use rv32_exec::{NoMemory, Notes, start};
+use crate::watch::Watch;
+use rv32_exec::{NoMemory, start};
 use rv32_image::Image;
 use std::alloc::Global;
 
@@ -30,11 +27,11 @@ pub enum CacheConflict {
     Buffer { later: u32 },
 }
 
-/// What came of an epoch: in what it conflicts with an earlier one, and, where in nothing, whether the next one runs.
+/// What came of an epoch: in what it conflicts with an earlier one, and whether the next one runs.
 #[derive(Clone, Copy)]
-struct Looked {
-    found: Option<CacheConflict>,
-    goes_on: bool,
+pub(crate) struct Looked {
+    pub(crate) found: Option<CacheConflict>,
+    pub(crate) goes_on: bool,
 }
 
 /// What came of the run in order: the first conflict, and, where there is none, how many epochs it has.
@@ -44,69 +41,6 @@ struct RanClear {
     epochs: u32,
 }
 
-/// What is kept of the lines of the caches, of as many cores, while epochs run.
-#[derive(Drop)]
-struct Watch {
-    cores: u32,
-    /// The epoch that runs.
-    epoch: Epoch,
-    lines: Lines,
-    touches: Touches,
-    /// The epoch has read a byte from outside in a line in which an epoch beside it has stored. Nothing is noted since.
-    has_met: bool,
-    /// The line at hand for loads, and 1, or 0 for none: there a load of the epoch changes nothing.
-    quiet: u32,
-    /// The line at hand for stores, and 1, or 0 for none: there a store of the epoch changes who stored its bytes, and nothing else.
-    stored: u32,
-}
-
-impl Notes for Watch {
-    ghost use Rattle.dependences.specs.KeptWatch.{AreAtHand, IsWatched};
-
-    ghost right = { λ image watch h memory. IsWatched image watch h memory × AreAtHand watch };
-
-    ghost fixed = { λ watch. watch.cores ∷ watch.epoch ∷ [] };
-
-    fn others_need_no_note() {}
-
-    #[inline(always)]
-    fn load(&mut self, image: &Image, _pc: u32, _done: u64, addr: u32, width: u32) {
-        if self.has_met {
-            return;
-        }
-        let line = line_of(image, addr);
-        if self.quiet == line + 1 {
-            return;
-        }
-        let epoch = self.epoch.number();
-        let first = first_beside(self.cores, epoch);
-        let look = self.lines.look(image, line, self.epoch, first, addr, width);
-        if look.meets {
-            self.has_met = true;
-            return;
-        }
-        self.touches.touch(image, self.cores, epoch, line);
-        self.quiet = look.quiet;
-    }
-
-    #[inline(always)]
-    fn store(&mut self, image: &Image, _pc: u32, _done: u64, addr: u32, width: u32) {
-        if self.has_met {
-            return;
-        }
-        let line = line_of(image, addr);
-        if self.stored == line + 1 {
-            self.lines.store_again(image, line, self.epoch, addr, width);
-            return;
-        }
-        let epoch = self.epoch.number();
-        self.lines.store(image, line, self.epoch, addr, width);
-        self.touches.touch(image, self.cores, epoch, line);
-        self.touches.store(image, self.cores, epoch, line);
-        self.stored = line + 1;
-    }
-}
-
 /// A conflict over caches of two epochs that so many cores can run beside each other, also past the loop's exit or fault; None
 /// where there is none. Then nor do any two paths conflict, on so many cores or on fewer; and where no epoch stores in more lines than
 /// its buffer takes, shared or not, no legal history has a violation that is of a kind.
@@ -114,7 +48,8 @@ impl Notes for Watch {
 /// It runs the loop in order, up to the first conflict. Where that ends early it runs it once more, and each epoch past the end
 /// that the cores can reach over a copy of memory.
 ///
-/// `NoMemory`: there was none for three copies of the image's bytes, a word beside each, five for each line, and one for each epoch.
+/// `NoMemory`: there was none for three copies of the image's bytes, two words for each 16 of them, five for each line, and one for each
+/// epoch.
 pub fn conflict_over_caches(
     alloc: Global,
     image: &Image,
@@ -130,15 +65,7 @@ pub fn conflict_over_caches(
         return Ok(None);
     }
     let mut memory = Vec::from_slice(alloc, bytes)?;
-    let mut watch = Watch {
-        cores,
-        epoch: Epoch::of(0),
-        lines: Lines::none(alloc, image)?,
-        touches: Touches::none(alloc, image)?,
-        has_met: false,
-        quiet: 0,
-        stored: 0,
-    };
+    let mut watch = Watch::none(alloc, image, cores)?;
     let ran = conflict_in_order(image, cores, memory.as_mut_slice(), &mut watch);
     if ran.found.is_some() {
         return Ok(ran.found);
@@ -177,7 +104,7 @@ fn conflict_in_order(image: &Image, cores: u32, memory: &mut [u8], watch: &mut W
 }
 
 /// In what an epoch past those that run in order, of which there are so many, conflicts with an earlier one.
-fn conflict_past_end(
+pub(crate) fn conflict_past_end(
     alloc: Global,
     image: &Image,
     cores: u32,
@@ -251,26 +178,11 @@ fn conflict_of(
     ensures kept { result.found ≡ None → IsWatchKept image.now cores watch.new (epoch + 1) }
     ensures next { result.found ≡ None → first_epochs image.now epoch ≡ record { end = Done epoch; bytes = memory.old } → IsNext image.now (epoch + 1) memory.new result.goes_on }
 {
-    watch.epoch = Epoch::of(epoch);
-    watch.has_met = false;
-    watch.quiet = 0;
-    watch.stored = 0;
+    watch.begin(epoch);
     let mut hart = start(image, epoch);
     let at = hart.run_to_end(image, memory, watch);
-    if watch.has_met {
-        return Looked {
-            found: Some(CacheConflict::Line { later: epoch }),
-            goes_on: false,
-        };
-    }
-    if watch.touches.overflows() {
-        return Looked {
-            found: Some(CacheConflict::Buffer { later: epoch }),
-            goes_on: false,
-        };
-    }
     Looked {
-        found: None,
+        found: watch.found(),
         goes_on: next_runs(image, &hart, at),
     }
 }

@@ -6,7 +6,8 @@ ghost use Rattle.dependences.specs.declared.flow.Dependence.{Dependence};
 ghost use Rattle.dependences.specs.Flow.{AreDependences};
 ghost use Rattle.dependences.specs.Kept.{CanRun, IsNext};
 ghost use Rattle.dependences.specs.Kept as spec_kept;
-ghost use Rattle.dependences.specs.KeptRun.{IsFlowKept, IsLoadKept};
+ghost use Rattle.dependences.specs.KeptRun.{IsFlowKept, IsLeft, IsLoadKept, IsRunKept};
+ghost use Rattle.dependences.specs.KeptPairs.{ArePairSums};
 ghost use Rattle.dependences.specs.KeptLast.{dependence_by};
 ghost use Rattle.dependences.specs.KeptStores as spec;
 ghost use Rattle.dependences.specs.Lengths.{AreLengths, Lasts};
@@ -68,6 +69,25 @@ pub fn shown_in_order(alloc: Global, image: &Image) -> Result<RunInOrder, NoMemo
 {
     let sums = PairSums::new(alloc)?;
     let (flow, lengths) = run_in_order(alloc, image, sums)?;
+    shown_by(image, flow, lengths)
+}
+
+/// The same by what is kept of the run at its end, and its lengths.
+///
+/// `NoMemory`: there was none for the sums.
+pub(crate) fn shown_by(
+    _image: &Image,
+    flow: Flow<PairSums>,
+    lengths: Vec<u64>,
+) -> Result<RunInOrder, NoMemory>
+    requires found { (list : List Dependence) × ArePairSums flow.found list × AreDependences _image.now list × IsNearestLater list flow.nearest flow.later }
+    requires lengths { AreLengths _image.now lengths.items }
+    requires nearest { IsNearest _image.now flow.nearest }
+    ensures sums { IfOk result (λ shown. AreSums _image.now shown.sums) }
+    ensures lengths { IfOk result (λ shown. AreLengths _image.now shown.lengths.items) }
+    ensures nearest { IfOk result (λ shown. IsNearest _image.now shown.nearest) }
+    ensures later { IfOk result (λ shown. IsLaterAt _image.now shown.nearest shown.later) }
+{
     Ok(RunInOrder {
         sums: flow.found.all()?,
         lengths,
@@ -112,18 +132,17 @@ fn run_in_order<F: Found>(
     ensures nearest { IfOk result (λ ran. IsNearest image.now ran.0.nearest) }
 {
     let mut memory = Vec::from_slice(alloc, image.bytes())?;
-    let stores = LastStores::none(alloc, image.size() as usize)?;
+    let mut flow = Flow::none(alloc, image, found)?;
     // Room for all at once: a list that grows leaves memory behind that was touched.
     let mut lengths = Vec::with_capacity(alloc, image.epochs() as usize)?;
-    let mut flow = Flow {
-        epoch: Epoch::of(0),
-        stores,
-        found,
-        nearest: None,
-        later: 0,
-        is_full: false,
-    };
-    run_all(image, memory.as_mut_slice(), &mut flow, &mut lengths)?;
+    run_all(
+        image,
+        0,
+        true,
+        memory.as_mut_slice(),
+        &mut flow,
+        &mut lengths,
+    )?;
     Ok((flow, lengths))
 }
 
@@ -187,6 +206,24 @@ impl<F: Found> Notes for Flow<F> {
 }
 
 impl<F: Found> Flow<F> {
+    /// Where no epoch has run. `found` keeps no dependence yet.
+    ///
+    /// `NoMemory`: there was none for what is kept of each byte.
+    pub(crate) fn none(alloc: Global, image: &Image, found: F) -> Result<Flow<F>, NoMemory>
+        requires { F.keeps found [] }
+        ensures { IfOk result (λ flow. IsFlowKept F.keeps image.now 0 flow) }
+    {
+        let stores = LastStores::none(alloc, image.size() as usize)?;
+        Ok(Flow {
+            epoch: Epoch::of(0),
+            stores,
+            found,
+            nearest: None,
+            later: 0,
+            is_full: false,
+        })
+    }
+
     /// Notes an aligned load, where there was memory for all before.
     #[inline(always)]
     fn note_load(&mut self, pc: u32, done: u64, addr: u32, width: u32)
@@ -268,36 +305,37 @@ fn is_nearer(nearest: Option<u32>, distance: u32) -> bool
     }
 }
 
-/// Runs the epochs over memory, in order, and notes their dependences and their lengths. No byte has been stored before.
-fn run_all<F: Found>(
+/// Runs the epochs over memory that are left after so many, in order, and notes their dependences and their lengths.
+pub(crate) fn run_all<F: Found>(
     image: &Image,
+    from: u32,
+    goes_on: bool,
     memory: &mut [u8],
     flow: &mut Flow<F>,
     lengths: &mut Vec<u64>,
 ) -> Result<(), NoMemory>
-    requires memory { memory.old ≡ image.now.bytes }
-    requires long { spec.AreLong flow.old.stores image.now.size }
-    requires none { (a : ℕ) → slice_index flow.old.stores.writers a ≡ 0 }
-    requires found { F.keeps flow.old.found [] }
-    requires nearest { flow.old.nearest ≡ None }
-    requires room { flow.old.is_full ≡ false }
-    requires lengths { lengths.old.items ≡ [] }
+    requires most { from ≤ image.now.epochs }
+    requires size { length memory.old ≡ image.now.size }
+    requires left { IsLeft image.now from memory.old goes_on }
+    requires kept { IsRunKept F.keeps image.now from flow.old lengths.old.items }
     ensures found { IfOk result (λ done. (list : List Dependence) × F.keeps flow.new.found list × AreDependences image.now list × IsNearestLater list flow.new.nearest flow.new.later) }
     ensures lengths { IfOk result (λ done. AreLengths image.now lengths.new.items) }
     ensures nearest { IfOk result (λ done. IsNearest image.now flow.new.nearest) }
 {
-    for epoch in 0..image.epochs() {
-        let ran = follow(image, epoch, memory, flow)?;
-        add(lengths, ran.length)?;
-        if !ran.goes_on {
+    let mut goes_on = goes_on;
+    for epoch in from..image.epochs() {
+        if !goes_on {
             return Ok(());
         }
+        let ran = follow(image, epoch, memory, flow)?;
+        add(lengths, ran.length)?;
+        goes_on = ran.goes_on;
     }
     Ok(())
 }
 
 /// Adds the length of one more epoch.
-fn add(lengths: &mut Vec<u64>, count: u64) -> Result<(), NoMemory>
+pub(crate) fn add(lengths: &mut Vec<u64>, count: u64) -> Result<(), NoMemory>
     ensures { OnOk result (lengths.new.items ≡ lengths.old.items ++ count ∷ []) }
 {
     lengths.push(count).map_err(|_| NoMemory)

@@ -1,11 +1,12 @@
 ghost use Rattle.std.specs.Prelude.{◌≡◌, ℕ, ◌+◌, ◌<◌, ◌≤◌, ◌^◌, IfOk, true, false, length, slice_index};
 ghost use Rattle.rv32_image.specs.Image.{IsImage};
 ghost use Rattle.spec_history.specs.Conflict.{line_count, line_number};
+ghost use Rattle.dependences.specs.KeptOwn.{AreLong};
 ghost use Rattle.dependences.specs.KeptLines as spec;
 
 use crate::epoch::Epoch;
 use crate::last_two::LastTwo;
-use crate::marks::Marks;
+use crate::own_bytes::OwnBytes;
 use rv32_exec::NoMemory;
 use rv32_image::Image;
 use std::alloc::Global;
@@ -19,10 +20,10 @@ pub(crate) struct Look {
     pub quiet: u32,
 }
 
-/// Of each byte the last epoch that stored it, and 1, or 0 for none; and the last that stored in each line.
+/// Which bytes the epoch that runs has stored; and the last that stored in each line.
 #[derive(Drop)]
 pub(crate) struct Lines {
-    own: Marks,
+    own: OwnBytes,
     two: LastTwo,
 }
 
@@ -40,7 +41,7 @@ impl Lines {
         ensures { IfOk result (λ s. (cores : ℕ) → spec.AreLinesKept image.now cores 0 s) }
     {
         let size = image.size() as usize;
-        let own = Marks::none(alloc, size)?;
+        let own = OwnBytes::none(alloc, size)?;
         let two = LastTwo::none(alloc, image)?;
         Ok(Lines { own, two })
     }
@@ -61,7 +62,6 @@ impl Lines {
         requires line { line ≡ line_number _image.now addr }
         requires inside { line < line_count _image.now }
         requires access { spec.IsAllowed _image.now addr width }
-        requires own { length self.now.own ≡ _image.now.size }
         requires lines { spec.AreLines _image.now self.now.two }
         ensures found { result.meets ≡ true → spec.MeetsLine _image.now self.now epoch first addr width }
         ensures none { result.meets ≡ false → spec.MeetsLine _image.now self.now epoch first addr width → ⊥ }
@@ -74,7 +74,7 @@ impl Lines {
             };
         }
         for i in 0..width {
-            if self.own.at(addr + i) != epoch.note() {
+            if !self.own.has(epoch, addr + i) {
                 return Look {
                     meets: true,
                     quiet: 0,
@@ -94,12 +94,12 @@ impl Lines {
         requires line { line ≡ line_number _image.now addr }
         requires inside { line < line_count _image.now }
         requires access { spec.IsAllowed _image.now addr width }
-        requires own { length self.old.own ≡ _image.now.size }
+        requires own { AreLong self.old.own _image.now.size }
         requires lines { spec.AreLines _image.now self.old.two }
         ensures stored { spec.AreStored _image.now self.old self.new epoch addr width }
         ensures noted { spec.IsLineNoted self.old.two self.new.two epoch line }
     {
-        self.own.mark(addr, width, epoch.note());
+        self.own.mark(epoch, addr, width);
         self.two.note(epoch, line);
     }
 
@@ -116,11 +116,11 @@ impl Lines {
         requires limits { IsImage _image.now }
         requires line { line ≡ line_number _image.now addr }
         requires access { spec.IsAllowed _image.now addr width }
-        requires own { length self.old.own ≡ _image.now.size }
+        requires own { AreLong self.old.own _image.now.size }
         requires again { slice_index self.old.two.last line ≡ epoch + 1 }
         ensures stored { spec.AreStored _image.now self.old self.new epoch addr width }
         ensures same { self.new.two ≡ self.old.two }
     {
-        self.own.mark(addr, width, epoch.note());
+        self.own.mark(epoch, addr, width);
     }
 }

@@ -1,8 +1,6 @@
 //! A number beside each of some places.
-ghost use Rattle.std.specs.Prelude.{◌≡◌, ◌+◌, ◌<◌, ◌≤◌, ◌^◌, ℕ, IfOk, length, set, slice_index, vec_capacity};
-ghost use Rattle.dependences.specs.Kept.{IsMarked};
+ghost use Rattle.std.specs.Prelude.{◌≡◌, ◌<◌, ◌≤◌, ℕ, IfOk, length, set, slice_index, vec_capacity};
 
-use crate::nearest::mark;
 use rv32_exec::NoMemory;
 use std::alloc::Global;
 use std::marker::Model;
@@ -59,18 +57,6 @@ impl Marks {
         let at = place as usize;
         reach(&mut self.numbers, at + 1, self.size);
         self.numbers[at] = number;
-    }
-
-    /// Gives the bytes of an access this number.
-    #[inline(always)]
-    pub(crate) fn mark(&mut self, addr: u32, width: u32, number: u32)
-        requires small { length self.old < 2 ^ 32 }
-        requires within { addr + width ≤ length self.old }
-        ensures long { length self.new ≡ length self.old }
-        ensures marked { IsMarked self.old self.new addr width number }
-    {
-        reach(&mut self.numbers, (addr + width) as usize, self.size);
-        mark(self.numbers.as_mut_slice(), addr, width, number);
     }
 }
 

@@ -1,4 +1,4 @@
-use Rattle.std.proofs.Common.{◌≡◌, ◌≤◌, sym, subst, ◌∙◌, arith}
+use Rattle.std.proofs.Common.{◌≡◌, ◌≤◌, sym, subst, arith}
 use Rattle.dependences.specs.KeptLines.{other_before}
 use Rattle.dependences.proofs.Words.{meets_word, written_word}
 use Rattle.dependences.proofs.lines.Lines.look.Goals as goal
@@ -9,12 +9,12 @@ returns-then-other_before-first-clause-none c none =
     (λ m. let written = written_word c.args._image.now c.requires.limits c.args.addr c.args.width c.args.line c.requires.access.wide c.requires.access.aligned c.requires.line
     _ c.args.epoch c.args.first m in omega (arith, written, c.other_before.ensures, c.if-other_before-first.true))
 
-pub returns-then-at-note-clause-found : goal.returns-then-at-note-clause-found
-returns-then-at-note-clause-found c found =
+pub returns-then-not-has-clause-found : goal.returns-then-not-has-clause-found
+returns-then-not-has-clause-found c found =
     rw (← c.self.view_is)
     (meets_word c.args._image.now c.requires.limits c.args.addr c.args.width c.args.line c.requires.access.wide c.requires.access.aligned c.requires.line
     _ c.args.epoch c.args.first c.loop-i.i c.loop-i-test.true
-    (λ same. c.if-at-note.true (c.at.ensures ∙ (same ∙ sym c.note.ensures.note)))
+    (c.has.ensures.not c.if-not-has.true)
     (omega (arith, c.other_before.ensures, c.if-other_before-first.false)))
 
 pub returns-then-other_before-first-clause-quiet : goal.returns-then-other_before-first-clause-quiet

@@ -3,8 +3,7 @@ use Rattle.dependences.proofs.lines.Lines.store.Goals as goal
 
 pub returns-clause-stored : goal.returns-clause-stored
 returns-clause-stored c = rw (← c.self.view_is) (record {
-  marked = rw (← c.note.ensures.note) c.mark.ensures.marked;
-  own_long = c.mark.ensures.long;
+  own = c.mark.ensures;
   lines = noted_word c.args._image.now c.requires.limits c.args.addr c.args.width c.args.line c.requires.access.wide c.requires.access.aligned c.requires.line
-      c.self.inside.two c.note-2.new.self c.args.epoch c.note-2.ensures;
+      c.self.inside.two c.note.new.self c.args.epoch c.note.ensures;
 })

@@ -6,7 +6,7 @@ use Rattle.dependences.proofs.AtHand.{hand_again, hand_store, touches_inside}
 use Rattle.dependences.proofs.Buffering.{inside_at}
 use Rattle.dependences.proofs.Sharing.{store_again, touch_again}
 use Rattle.dependences.proofs.Watching.{met_before, store_access, store_of, stored_long, watched_store}
-use Rattle.dependences.proofs.caches.WatchNotes.store.Goals as goal
+use Rattle.dependences.proofs.watch.WatchNotes.store.Goals as goal
 
 pub returns-then-self-clause-right : goal.returns-then-self-clause-right
 returns-then-self-clause-right c h memory value next right = (met_before c.args.image.now c.args.self.now h _ memory _ c.if-self.true right.0, right.1)

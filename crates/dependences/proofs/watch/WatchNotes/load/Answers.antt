@@ -5,7 +5,7 @@ use Rattle.dependences.specs.KeptWatch.{IsQuiet}
 use Rattle.dependences.proofs.AtHand.{hand_again, hand_load, quiet_unmet, touches_inside}
 use Rattle.dependences.proofs.Sharing.{touch_again}
 use Rattle.dependences.proofs.Watching.{access_of, load_access, met_before, met_now, watched_load}
-use Rattle.dependences.proofs.caches.WatchNotes.load.Goals as goal
+use Rattle.dependences.proofs.watch.WatchNotes.load.Goals as goal
 
 pub returns-then-self-clause-right : goal.returns-then-self-clause-right
 returns-then-self-clause-right c h memory signed rd next right = (met_before c.args.image.now c.args.self.now h _ memory memory c.if-self.true right.0, right.1)
