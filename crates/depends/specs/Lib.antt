@@ -6,6 +6,7 @@ pub mod Never
 pub mod Shown
 pub mod Line
 pub mod Plain
+pub mod Ran
 pub mod Lines
 pub mod Answers
 -- What the program answers the words of a command line.

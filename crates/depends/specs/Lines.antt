@@ -9,8 +9,6 @@ use Rattle.dependences.specs.declared.flow.Dependence.{Dependence}
 use Rattle.dependences.specs.declared.pairs.PairSum.{PairSum}
 use Rattle.dependences.specs.Flow.{AreDependences}
 use Rattle.dependences.specs.Lengths.{AreLengths}
-use Rattle.shown_conflicts.specs.declared.shown.InOrder.{InOrder}
-use Rattle.shown_conflicts.specs.Ran.{IsRun}
 use Rattle.trace_commands.specs.declared.store.Store.{Store}
 use Rattle.trace_commands.specs.declared.store.Store.TheVariants.{Caches, Plain}
 use Rattle.trace_commands.specs.Stores.{store_named}
@@ -32,11 +30,6 @@ pub record AreRowLines (found : List Dependence) (lengths : List ℕ) (text : Li
 abbrev pub IsLineOf : LoadedImage → Store → ℕ → ℕ → Line → Type 0
 IsLineOf image (Caches asked) cores room line = IsLine cache.Starts cache.Makes caches.store_view caches.waits image Lines cores room line
 IsLineOf image Plain cores room line = IsPlainLine image cores room line
-
--- what the run in order shows is so of the loop on the machine of this store, where that is taken
-abbrev pub IsRunOn : LoadedImage → Store → InOrder → Type 0
-IsRunOn image (Caches asked) ran = Unit {0}
-IsRunOn image Plain ran = IsRun image ran
 
 -- it is told of the store that this word names
 abbrev pub AddStore : LoadedImage → ℕ → ℕ → List ℕ → Option Store → List ℕ → List ℕ → Type 0

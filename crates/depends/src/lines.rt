@@ -1,25 +1,26 @@
 //! All lines.
-ghost use Rattle.std.specs.Prelude.{◌≡◌, IfOk, OnOk, List, map};
-ghost use Rattle.trace_commands.specs.Stores.{store_named};
+ghost use Rattle.std.specs.Prelude.{◌≡◌, true, IfOk, OnOk, List, map};
+ghost use Rattle.trace_commands.specs.Stores.{nothing_asked, store_named};
 ghost use Rattle.replay_command.specs.Stores.{RunsOn, RunsOnAll};
-ghost use Rattle.shown_conflicts.specs.Ran.{IsRun};
 ghost use Rattle.dependences.specs.declared.flow.Dependence.{Dependence};
 ghost use Rattle.dependences.specs.Summed.{AreSumsOf};
 ghost use Rattle.depends.specs.Lines as spec;
+ghost use Rattle.depends.specs.Ran.{IsSeen, IsSeenOn};
 
 use crate::line::{Line, line_over_caches, push_line};
 use crate::plain::line_over_plain;
+use crate::ran::{Seen, ran_for};
 use crate::rows::rows_of;
 use crate::text::push_rows;
 use all_schedules::{LoopOn, Room};
-use dependences::{PairSum, shown_in_order};
+use dependences::PairSum;
 use replay_command::{CoreCount, store_on};
 use rv32_exec::Image;
 use shown_conflicts::InOrder;
 use std::alloc::{AllocError, Global};
 use std::collections::BTreeMap;
 use std::convert::AsStr;
-use trace_commands::Store;
+use trace_commands::{MachineAsked, Store};
 
 /// The lines of the dependences, and then those of each store that these words name, whose machine can run the image on so many cores.
 ///
@@ -34,16 +35,19 @@ pub fn print_lines<S: AsStr>(
     requires stores { RunsOnAll image.now cores (map S.text stores.now) }
     ensures { IfOk result (λ text. spec.AreLines image.now cores room (map S.text stores.now) text.items) }
 {
-    let Ok(ran) = shown_in_order(alloc, image) else {
-        return Err(AllocError);
-    };
+    let ran = ran_for(alloc, image, cores.count(), stores)?;
+    let run = ran.run;
     let in_order = InOrder {
-        nearest: ran.nearest,
-        later: ran.later,
-        epochs: ran.lengths.len().min(image.epochs() as usize) as u32,
+        nearest: run.nearest,
+        later: run.later,
+        epochs: run.lengths.len().min(image.epochs() as usize) as u32,
     };
-    let mut text = print_rows(alloc, &ran.sums, ran.lengths.as_slice())?;
-    push_stores(alloc, &mut text, image, cores, stores, room, in_order)?;
+    let seen = Seen {
+        in_order,
+        is_clear: ran.is_clear,
+    };
+    let mut text = print_rows(alloc, &run.sums, run.lengths.as_slice())?;
+    push_stores(alloc, &mut text, image, cores, stores, room, seen)?;
     Ok(text)
 }
 
@@ -69,14 +73,14 @@ fn push_stores<S: AsStr>(
     cores: CoreCount,
     words: &[S],
     room: Room,
-    ran: InOrder,
+    seen: Seen,
 ) -> Result<(), AllocError>
     requires stores { RunsOnAll image.now cores (map S.text words.now) }
-    requires ran { IsRun image.now ran }
+    requires seen { IsSeen image.now cores seen }
     ensures { OnOk result (spec.AddStores image.now cores room (map S.text words.now) text.old.items text.new.items) }
 {
     for word in words {
-        push_store(alloc, text, image, cores, word.as_str(), room, ran)?;
+        push_store(alloc, text, image, cores, word.as_str(), room, seen)?;
     }
     Ok(())
 }
@@ -89,29 +93,52 @@ fn push_store(
     cores: CoreCount,
     word: &str,
     room: Room,
-    ran: InOrder,
+    seen: Seen,
 ) -> Result<(), AllocError>
     requires store { RunsOn image.now cores (store_named word.now) }
-    requires ran { IsRun image.now ran }
+    requires seen { IsSeen image.now cores seen }
     ensures { OnOk result (spec.AddStore image.now cores room word.now (store_named word.now) text.old.items text.new.items) }
 {
-    let (store, image) = store_on(image, cores, word)?;
+    let (store, on_machine) = store_on(image, cores, word)?;
+    let is_clear = seen.is_clear && asks_nothing(store.asked());
     let on = LoopOn {
-        image: &image,
+        image: &on_machine,
         cores: cores.count(),
         room,
     };
-    let line = line_of(alloc, &on, store, ran)?;
+    let line = line_of(alloc, &on, store, Seen { is_clear, ..seen })?;
     push_line(text, word, on.cores, &line)
 }
 
+/// Whether nothing is asked of the machine, so that it is the image's.
+fn asks_nothing(asked: MachineAsked) -> bool
+    ensures { result ≡ true → asked ≡ nothing_asked }
+{
+    match asked {
+        MachineAsked {
+            line_length: None,
+            sets: None,
+            ways: None,
+            buffer_lines: None,
+            apart: None,
+        } => true,
+        _ => false,
+    }
+}
+
 /// What is told of a store, of the loop on its machine.
-fn line_of(alloc: Global, on: &LoopOn<'_>, store: Store, ran: InOrder) -> Result<Line, AllocError>
-    requires ran { spec.IsRunOn on.now.image.now store ran }
+fn line_of(alloc: Global, on: &LoopOn<'_>, store: Store, seen: Seen) -> Result<Line, AllocError>
+    requires seen { IsSeenOn on.now.image.now store on.now.cores seen }
     ensures { IfOk result (spec.IsLineOf on.now.image.now store on.now.cores on.now.room) }
 {
     match store {
-        Store::Caches(_) => line_over_caches(alloc, on, ran.nearest),
-        Store::Plain => line_over_plain(alloc, on, ran),
+        Store::Caches(_) => {
+            if seen.is_clear {
+                Ok(Line::Never)
+            } else {
+                line_over_caches(alloc, on, seen.in_order.nearest)
+            }
+        }
+        Store::Plain => line_over_plain(alloc, on, seen.in_order),
     }
 }

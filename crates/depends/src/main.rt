@@ -14,6 +14,7 @@ mod least;
 mod line;
 mod lines;
 mod plain;
+mod ran;
 mod rows;
 mod shown;
 mod text;
