@@ -20,10 +20,9 @@ use Rattle.dependences.specs.Conflict.{memory_before}
 use Rattle.dependences.specs.Kept.{AreAll, AreKept, CanRun, IsLeast, IsNext, behind, load_behind, nearer, next_runs}
 use Rattle.dependences.specs.KeptStores.{AreMarked, AreStoresKept, IsNearest, IsNearestByte, IsNoted, Stores, nearest_after, noted, noted_at}
 use Rattle.dependences.specs.Flow.{AreDependences}
-use Rattle.dependences.specs.Lengths.{AreLengths, Lasts}
+use Rattle.dependences.specs.Lengths.{Lasts}
 use Rattle.dependences.specs.Nearest.{Depends, IsLaterAt, IsNearestLater}
-use Rattle.dependences.specs.Nearest as near
-use Rattle.dependences.specs.KeptRun.{IsLoadKept, Flowing, Following, IsFlowKept, IsKeptUpTo, IsRight, IsRunKept}
+use Rattle.dependences.specs.KeptRun.{IsLoadKept, Flowing, Following, HaveAllRun, IsFlowKept, IsKeptUpTo, IsRight, IsRunKept}
 use Rattle.dependences.proofs.Following.{following_load, following_start, following_store, kept_after, nearest_of, runs_in_order, writers_below}
 use Rattle.dependences.proofs.Flowing.{all_dependences, flowing_load, flowing_path, flowing_start, flowing_store, kept_on}
 use Rattle.dependences.proofs.Outside.{done_before, lasts, lasts_more, next_so}
@@ -272,15 +271,17 @@ module _ {F : Type 0} (keeps : F → List Dependence → Type 0) (image : Loaded
       record { kept = kept; long = ap length is ∙ omega (arith, sum, was.long); each = lasts_more image epoch count lengths lengths' is was.long lasts was.each }
 
   -- all epochs have run
-  module _ (ran : ℕ) (flow : Flow F) (lengths : List ℕ) (all : AreAll image ran) (kept : IsRunKept keeps image ran flow lengths) where
-    pub run_found : (list : List Dependence) × keeps flow.found list × AreDependences image list × IsNearestLater list flow.nearest flow.later
-    run_found = let k = kept.kept in (k.found, k.list, all_dependences image ran k.found all k.stores.list, k.later)
-
-    pub run_lengths : AreLengths image lengths
-    run_lengths = record { all = subst (AreAll image) (sym kept.long) all; each = λ d low. kept.each d (subst (λ n. d < n) kept.long low) }
-
-    pub run_nearest : near.IsNearest image flow.nearest
-    run_nearest = nearest_of image ran flow.nearest (λ earlier later depends. all.no_more later depends.within depends.in_order) kept.kept.writers.least
+  pub all_run : (ran : ℕ) (flow : Flow F) (lengths : List ℕ) → AreAll image ran → IsRunKept keeps image ran flow lengths → HaveAllRun keeps image flow lengths
+  all_run ran flow lengths all kept =
+      let k = kept.kept in
+      record {
+        found = k.found;
+        list = k.list;
+        are = all_dependences image ran k.found all k.stores.list;
+        later = k.later;
+        nearest = nearest_of image ran flow.nearest (λ earlier later depends. all.no_more later depends.within depends.in_order) k.writers.least;
+        lasts = record { all = subst (AreAll image) (sym kept.long) all; each = λ d low. kept.each d (subst (λ n. d < n) kept.long low) };
+      }
 
 -- ---- how near
 

@@ -11,8 +11,9 @@ use Rattle.dependences.specs.declared.flow.Dependence.{Dependence}
 use Rattle.dependences.specs.declared.flow.Flow.{Flow}
 use Rattle.dependences.specs.Paths.{StoresAt}
 use Rattle.dependences.specs.Conflict.{IsInOrder, memory_before}
-use Rattle.dependences.specs.Nearest.{Depends, IsNearestLater}
-use Rattle.dependences.specs.Lengths.{Lasts}
+use Rattle.dependences.specs.Nearest.{Depends, IsNearest, IsNearestLater}
+use Rattle.dependences.specs.Flow.{AreDependences}
+use Rattle.dependences.specs.Lengths.{AreLengths, Lasts}
 use Rattle.dependences.specs.Kept.{AreAll, AreKept, DependsBefore, IsLastWriter, IsLeast}
 use Rattle.dependences.specs.KeptStores.{AreBefore, AreLong, AreStoresKept, IsNearestByte, IsStoredLast, Stores, nearest_after, noted_at}
 
@@ -74,6 +75,15 @@ pub record IsRunKept {F : Type 0} (keeps : F → List Dependence → Type 0) (im
   pub kept : IsFlowKept keeps image epoch flow
   pub long : length lengths ≡ epoch
   pub each : (d : ℕ) → d < epoch → Lasts image d (slice_index lengths d)
+
+-- all epochs have run that run in order
+pub record HaveAllRun {F : Type 0} (keeps : F → List Dependence → Type 0) (image : LoadedImage) (flow : Flow F) (lengths : List ℕ) : Type 0 where
+  pub found : List Dependence
+  pub list : keeps flow.found found
+  pub are : AreDependences image found
+  pub later : IsNearestLater found flow.nearest flow.later
+  pub nearest : IsNearest image flow.nearest
+  pub lasts : AreLengths image lengths
 
 -- the epochs before this one are done, and it runs over this memory; or no more run in order
 abbrev pub IsLeft : LoadedImage → ℕ → List ℕ → Bool → Type 0

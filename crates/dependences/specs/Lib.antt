@@ -1,7 +1,8 @@
 -- Definitions to believe: Paths (an epoch alone, what it stores, and what it reads from outside), Conflict (what can roll back
 -- at all), Shared (buffers that are too small for lines that others touch), Laws (what the laws take, and what they say), Nearest
 -- (how near epochs depend on each other in order), Flow (the loads that depend on earlier epochs), Pairs (the instructions that these
--- join), Stored (where epochs store) and Lengths (how many instructions epochs execute).
+-- join), Stored (where epochs store), Lengths (how many instructions epochs execute) and
+-- OverCaches (what one run shows of all these).
 pub mod Paths
 pub mod Conflict
 pub mod Shared
@@ -12,6 +13,7 @@ pub mod Pairs
 pub mod Summed
 pub mod Stored
 pub mod Lengths
+pub mod OverCaches
 -- What the code keeps.
 pub mod Kept
 pub mod KeptMarks

@@ -6,7 +6,7 @@ ghost use Rattle.dependences.specs.declared.flow.Dependence.{Dependence};
 ghost use Rattle.dependences.specs.Flow.{AreDependences};
 ghost use Rattle.dependences.specs.Kept.{CanRun, IsNext};
 ghost use Rattle.dependences.specs.Kept as spec_kept;
-ghost use Rattle.dependences.specs.KeptRun.{IsFlowKept, IsLeft, IsLoadKept, IsRunKept};
+ghost use Rattle.dependences.specs.KeptRun.{HaveAllRun, IsFlowKept, IsLeft, IsLoadKept, IsRunKept};
 ghost use Rattle.dependences.specs.KeptPairs.{ArePairSums};
 ghost use Rattle.dependences.specs.KeptLast.{dependence_by};
 ghost use Rattle.dependences.specs.KeptStores as spec;
@@ -80,9 +80,7 @@ pub(crate) fn shown_by(
     flow: Flow<PairSums>,
     lengths: Vec<u64>,
 ) -> Result<RunInOrder, NoMemory>
-    requires found { (list : List Dependence) × ArePairSums flow.found list × AreDependences _image.now list × IsNearestLater list flow.nearest flow.later }
-    requires lengths { AreLengths _image.now lengths.items }
-    requires nearest { IsNearest _image.now flow.nearest }
+    requires { HaveAllRun ArePairSums _image.now flow lengths.items }
     ensures sums { IfOk result (λ shown. AreSums _image.now shown.sums) }
     ensures lengths { IfOk result (λ shown. AreLengths _image.now shown.lengths.items) }
     ensures nearest { IfOk result (λ shown. IsNearest _image.now shown.nearest) }
@@ -127,9 +125,7 @@ fn run_in_order<F: Found>(
     found: F,
 ) -> Result<(Flow<F>, Vec<u64>), NoMemory>
     requires { F.keeps found [] }
-    ensures found { IfOk result (λ ran. (list : List Dependence) × F.keeps ran.0.found list × AreDependences image.now list × IsNearestLater list ran.0.nearest ran.0.later) }
-    ensures lengths { IfOk result (λ ran. AreLengths image.now ran.1.items) }
-    ensures nearest { IfOk result (λ ran. IsNearest image.now ran.0.nearest) }
+    ensures { IfOk result (λ ran. HaveAllRun F.keeps image.now ran.0 ran.1.items) }
 {
     let mut memory = Vec::from_slice(alloc, image.bytes())?;
     let mut flow = Flow::none(alloc, image, found)?;
@@ -318,9 +314,7 @@ pub(crate) fn run_all<F: Found>(
     requires size { length memory.old ≡ image.now.size }
     requires left { IsLeft image.now from memory.old goes_on }
     requires kept { IsRunKept F.keeps image.now from flow.old lengths.old.items }
-    ensures found { IfOk result (λ done. (list : List Dependence) × F.keeps flow.new.found list × AreDependences image.now list × IsNearestLater list flow.new.nearest flow.new.later) }
-    ensures lengths { IfOk result (λ done. AreLengths image.now lengths.new.items) }
-    ensures nearest { IfOk result (λ done. IsNearest image.now flow.new.nearest) }
+    ensures { IfOk result (λ done. HaveAllRun F.keeps image.now flow.new lengths.new.items) }
 {
     let mut goes_on = goes_on;
     for epoch in from..image.epochs() {

@@ -1,24 +1,20 @@
 //! What the run in order shows, also over caches, by one run.
-ghost use Rattle.std.specs.Prelude.{◌≡◌, ℕ, ◌+◌, ◌≤◌, IfOk, None};
+ghost use Rattle.std.specs.Prelude.{◌≡◌, ◌+◌, ◌≤◌, IfOk, None, length};
 ghost use Rattle.rv32_exec.specs.declared.sequential.End.TheVariants.{Done};
 ghost use Rattle.rv32_exec.specs.Sequential.{first_epochs};
-ghost use Rattle.dependences.specs.Conflict.{Overflow};
 ghost use Rattle.dependences.specs.Kept.{AreAll, CanRun, IsNext};
 ghost use Rattle.dependences.specs.KeptLines.{MeetsNone};
-ghost use Rattle.dependences.specs.KeptRun.{IsLeft, IsRunKept};
+ghost use Rattle.dependences.specs.KeptPairs.{ArePairSums};
+ghost use Rattle.dependences.specs.KeptRun.{HaveAllRun, IsFlowKept, IsLeft, IsRunKept};
 ghost use Rattle.dependences.specs.KeptTouches as spec;
 ghost use Rattle.dependences.specs.KeptWatch.{IsWatchKept};
-ghost use Rattle.dependences.specs.Laws.{NeverOverLines};
-ghost use Rattle.dependences.specs.Lengths.{AreLengths};
-ghost use Rattle.dependences.specs.Nearest.{IsLaterAt, IsNearest};
-ghost use Rattle.dependences.specs.Shared.{AreApart};
-ghost use Rattle.dependences.specs.Summed.{AreSums};
+ghost use Rattle.dependences.specs.OverCaches.{IsShownOverCaches};
 
 use crate::both::Both;
 use crate::caches::{CacheConflict, Looked, conflict_past_end};
 use crate::ends::next_runs;
 use crate::epoch::Epoch;
-use crate::flow::{Flow, Found, RunInOrder, add, run_all, shown_by, shown_in_order};
+use crate::flow::{Flow, Found, RunInOrder, add, run_all, shown_by};
 use crate::pairs::PairSums;
 use crate::watch::Watch;
 use rv32_exec::{NoMemory, start};
@@ -42,47 +38,67 @@ pub fn shown_over_caches(
     image: &Image,
     cores: u32,
 ) -> Result<RunOverCaches, NoMemory>
-    ensures sums { IfOk result (λ shown. AreSums image.now shown.run.sums) }
-    ensures lengths { IfOk result (λ shown. AreLengths image.now shown.run.lengths.items) }
-    ensures nearest { IfOk result (λ shown. IsNearest image.now shown.run.nearest) }
-    ensures later { IfOk result (λ shown. IsLaterAt image.now shown.run.nearest shown.run.later) }
-    ensures found { IfOk result (λ shown. spec.IsFound image.now cores shown.conflict) }
-    ensures none { IfOk result (λ shown. shown.conflict ≡ None → spec.IsNever image.now cores) }
-    ensures apart { IfOk result (λ shown. shown.conflict ≡ None → (fewer : ℕ) → fewer ≤ cores → AreApart image.now fewer) }
-    ensures never { IfOk result (λ shown. shown.conflict ≡ None → (fewer : ℕ) → fewer ≤ cores → (Overflow image.now fewer → ⊥) → NeverOverLines image.now fewer) }
+    ensures { IfOk result (IsShownOverCaches image.now cores) }
 {
-    let bytes = image.bytes();
-    if cores < 2 {
-        let run = shown_in_order(alloc, image)?;
-        return Ok(RunOverCaches {
-            run,
-            conflict: None,
-        });
-    }
-    let mut memory = Vec::from_slice(alloc, bytes)?;
-    let memory = memory.as_mut_slice();
-    let sums = PairSums::new(alloc)?;
-    let mut both = Both {
-        first: Flow::none(alloc, image, sums)?,
-        second: Watch::none(alloc, image, cores)?,
-    };
+    let mut memory = Vec::from_slice(alloc, image.bytes())?;
     let mut lengths = Vec::with_capacity(alloc, image.epochs() as usize)?;
-    let ran = run_both(image, cores, memory, &mut both, &mut lengths)?;
-    let Both {
-        mut first,
-        mut second,
-    } = both;
-    let conflict = conflict_of_all(alloc, image, cores, ran, &mut second)?;
+    let mut both = both_notes(alloc, image, cores)?;
+    let conflict = run_over_caches(
+        alloc,
+        image,
+        cores,
+        memory.as_mut_slice(),
+        &mut both,
+        &mut lengths,
+    )?;
+    let run = shown_by(image, both.first, lengths)?;
+    Ok(RunOverCaches { run, conflict })
+}
+
+/// Both notes before the first epoch.
+fn both_notes(
+    alloc: Global,
+    image: &Image,
+    cores: u32,
+) -> Result<Both<Flow<PairSums>, Watch>, NoMemory>
+    ensures flow { IfOk result (λ both. IsFlowKept ArePairSums image.now 0 both.first) }
+    ensures watch { IfOk result (λ both. IsWatchKept image.now cores both.second 0) }
+{
+    let sums = PairSums::new(alloc)?;
+    let first = Flow::none(alloc, image, sums)?;
+    let second = Watch::none(alloc, image, cores)?;
+    Ok(Both { first, second })
+}
+
+/// Runs the loop, with both notes: all its epochs, and where these don't conflict those past its end.
+///
+/// `NoMemory`: there was none for a dependence, a length, or for two copies of the image's bytes.
+fn run_over_caches<F: Found>(
+    alloc: Global,
+    image: &Image,
+    cores: u32,
+    memory: &mut [u8],
+    both: &mut Both<Flow<F>, Watch>,
+    lengths: &mut Vec<u64>,
+) -> Result<Option<CacheConflict>, NoMemory>
+    requires memory { memory.old ≡ image.now.bytes }
+    requires size { length memory.old ≡ image.now.size }
+    requires flow { IsRunKept F.keeps image.now 0 both.old.first lengths.old.items }
+    requires watch { IsWatchKept image.now cores both.old.second 0 }
+    ensures run { IfOk result (λ found. HaveAllRun F.keeps image.now both.new.first lengths.new.items) }
+    ensures found { IfOk result (λ found. spec.IsFound image.now cores found) }
+    ensures none { IfOk result (λ found. found ≡ None → spec.IsNever image.now cores) }
+{
+    let ran = run_both(image, cores, memory, both, lengths)?;
     run_all(
         image,
         ran.epochs,
         ran.goes_on,
         memory,
-        &mut first,
-        &mut lengths,
+        &mut both.first,
+        lengths,
     )?;
-    let run = shown_by(image, first, lengths)?;
-    Ok(RunOverCaches { run, conflict })
+    conflict_of_all(alloc, image, cores, ran, &mut both.second)
 }
 
 /// What came of the run of both notes: the first conflict; how many epochs have run; and whether the next one runs.

@@ -3,7 +3,7 @@ use Rattle.rv32_exec.specs.Sequential.{SequentialResult}
 use Rattle.dependences.specs.Kept.{AreAll}
 use Rattle.dependences.specs.KeptRun.{IsLeft}
 use Rattle.dependences.proofs.Ending.{all_left, left_next}
-use Rattle.dependences.proofs.Running.{run_found, run_lengths, run_more, run_nearest}
+use Rattle.dependences.proofs.Running.{all_run, run_more}
 use Rattle.dependences.proofs.flow.run_all.Goals as goal
 
 pub loop-epoch-init : goal.loop-epoch-init
@@ -23,38 +23,14 @@ loop-epoch-preserved g c =
       size = c.follow.auto.memory ∙ c.loop-epoch.invariant.size;
     }
 
-pub returns-then-not-goes_on-clause-found : goal.returns-then-not-goes_on-clause-found
-returns-then-not-goes_on-clause-found g c =
+pub returns-then-not-goes_on : goal.returns-then-not-goes_on
+returns-then-not-goes_on g c =
     let all = subst (IsLeft c.args.image.now c.loop-epoch.epoch c.loop-epoch.memory) c.if-not-goes_on.true c.loop-epoch.invariant.left in
-    run_found g.F.Found.keeps c.args.image.now c.loop-epoch.epoch c.loop-epoch.flow c.loop-epoch.lengths.items all c.loop-epoch.invariant.kept
+    all_run g.F.Found.keeps c.args.image.now c.loop-epoch.epoch c.loop-epoch.flow c.loop-epoch.lengths.items all c.loop-epoch.invariant.kept
 
-pub returns-then-not-goes_on-clause-lengths : goal.returns-then-not-goes_on-clause-lengths
-returns-then-not-goes_on-clause-lengths g c =
-    let all = subst (IsLeft c.args.image.now c.loop-epoch.epoch c.loop-epoch.memory) c.if-not-goes_on.true c.loop-epoch.invariant.left in
-    run_lengths g.F.Found.keeps c.args.image.now c.loop-epoch.epoch c.loop-epoch.flow c.loop-epoch.lengths.items all c.loop-epoch.invariant.kept
-
-pub returns-then-not-goes_on-clause-nearest : goal.returns-then-not-goes_on-clause-nearest
-returns-then-not-goes_on-clause-nearest g c =
-    let all = subst (IsLeft c.args.image.now c.loop-epoch.epoch c.loop-epoch.memory) c.if-not-goes_on.true c.loop-epoch.invariant.left in
-    run_nearest g.F.Found.keeps c.args.image.now c.loop-epoch.epoch c.loop-epoch.flow c.loop-epoch.lengths.items all c.loop-epoch.invariant.kept
-
-pub returns-clause-found : goal.returns-clause-found
-returns-clause-found g c =
+pub returns : goal.returns
+returns g c =
     let image = c.args.image.now in
     let last : c.loop-epoch.epoch ≡ image.epochs = omega (arith, c.requires.most, c.epochs-epoch-end.ensures.epochs, c.loop-epoch-test.false) in
     let all = all_left image c.loop-epoch.memory c.loop-epoch.goes_on (subst (λ n. IsLeft image n c.loop-epoch.memory c.loop-epoch.goes_on) last c.loop-epoch.invariant.left) in
-    run_found g.F.Found.keeps image c.loop-epoch.epoch c.loop-epoch.flow c.loop-epoch.lengths.items (subst (AreAll image) (sym last) all) c.loop-epoch.invariant.kept
-
-pub returns-clause-lengths : goal.returns-clause-lengths
-returns-clause-lengths g c =
-    let image = c.args.image.now in
-    let last : c.loop-epoch.epoch ≡ image.epochs = omega (arith, c.requires.most, c.epochs-epoch-end.ensures.epochs, c.loop-epoch-test.false) in
-    let all = all_left image c.loop-epoch.memory c.loop-epoch.goes_on (subst (λ n. IsLeft image n c.loop-epoch.memory c.loop-epoch.goes_on) last c.loop-epoch.invariant.left) in
-    run_lengths g.F.Found.keeps image c.loop-epoch.epoch c.loop-epoch.flow c.loop-epoch.lengths.items (subst (AreAll image) (sym last) all) c.loop-epoch.invariant.kept
-
-pub returns-clause-nearest : goal.returns-clause-nearest
-returns-clause-nearest g c =
-    let image = c.args.image.now in
-    let last : c.loop-epoch.epoch ≡ image.epochs = omega (arith, c.requires.most, c.epochs-epoch-end.ensures.epochs, c.loop-epoch-test.false) in
-    let all = all_left image c.loop-epoch.memory c.loop-epoch.goes_on (subst (λ n. IsLeft image n c.loop-epoch.memory c.loop-epoch.goes_on) last c.loop-epoch.invariant.left) in
-    run_nearest g.F.Found.keeps image c.loop-epoch.epoch c.loop-epoch.flow c.loop-epoch.lengths.items (subst (AreAll image) (sym last) all) c.loop-epoch.invariant.kept
+    all_run g.F.Found.keeps image c.loop-epoch.epoch c.loop-epoch.flow c.loop-epoch.lengths.items (subst (AreAll image) (sym last) all) c.loop-epoch.invariant.kept
