@@ -16,7 +16,7 @@ use Rattle.spec_history.specs.Conflict.{line_number}
 use Rattle.spec_history.proofs.OneEntry.Accesses.{load_counts}
 use Rattle.dependences.specs.Paths.{ReadsOutside, Stores}
 use Rattle.dependences.specs.Conflict.{IsInOrder, LineConflictInOrder, first_beside, run_memory}
-use Rattle.dependences.specs.KeptOwn.{HasStored}
+use Rattle.dependences.specs.KeptOwn.{AreLong, HasStored}
 use Rattle.dependences.specs.KeptLines.{AreLinesKept, AreStored, IsLastOf, LastTwo, Lines, MeetsLine, MeetsNone, StoresInLine, other_before}
 use Rattle.dependences.specs.KeptWatch.{InLines}
 use Rattle.dependences.proofs.Paths.{at_start, covered, either, load_after, neither, past_load, past_store, path_stores, reads_there, start_after, store_after}
@@ -92,7 +92,7 @@ lines_start image cores epoch memory s long kept = record {
   is = start_after image epoch memory long;
   own_long = kept.own;
   lines = kept.lines;
-  mine = λ a byte is. absurd cc;
+  mine = λ a byte is written. absurd cc;
   others = λ a none has. let owner = kept.owner (a / 16) in let same = has.0 in omega (arith, owner, same);
   owner = λ block. let low = kept.owner block in omega (arith, low);
   writer = λ line.
@@ -105,9 +105,9 @@ lines_start image cores epoch memory s long kept = record {
 module _ (image : LoadedImage) (cores epoch : ℕ) (memory now : List ℕ) (s : Lines) (h : HartState) (x : InLines image cores epoch memory now s h) where
   -- ---- a load
 
-  foreign : (a : ℕ) → (HasStored s.own epoch a → ⊥) → (o : Option ℕ) → x.stored a ≡ o → x.stored a ≡ None
-  foreign a other (Some byte) is = absurd (other (x.mine a byte is))
-  foreign a other None is = is
+  foreign : (a : ℕ) → (HasStored s.own epoch a → ⊥) → first_beside cores epoch < other_before s.two epoch (line_number image a) → (o : Option ℕ) → x.stored a ≡ o → x.stored a ≡ None
+  foreign a other written (Some byte) is = absurd (other (x.mine a byte is written))
+  foreign a other written None is = is
 
   conflict_by : (address width : ℕ) (signed : Bool) (rd : ℕ) → (next_event image h).at ≡ stop.Load address width signed rd → memory ≡ run_memory image cores epoch
       → epoch < image.epochs → IsInOrder image (first_beside cores epoch) → (m : MeetsLine image s epoch (first_beside cores epoch) address width)
@@ -115,7 +115,7 @@ module _ (image : LoadedImage) (cores epoch : ℕ) (memory now : List ℕ) (s : 
       → (c : LineConflictInOrder image cores) × (c.later ≡ epoch)
   conflict_by address width signed rd is same within starts m (d, from, low, p) =
       let inside = m.within in
-      let none = foreign (address + m.i) m.foreign (x.stored (address + m.i)) refl in (
+      let none = foreign (address + m.i) m.foreign m.written (x.stored (address + m.i)) refl in (
         record {
           earlier = d;
           later = epoch;
@@ -176,18 +176,48 @@ module _ (image : LoadedImage) (cores epoch : ℕ) (memory now : List ℕ) (s : 
 
   -- ---- a store
 
-  mine_by : (s' : Lines) (address width value a byte : ℕ) → AreStored image s s' epoch address width → (o : Option ℕ) → stored address width value a ≡ o
-      → ((b : ℕ) × (stored address width value a ≡ Some b)) ⊎ (x.stored a ≡ Some byte) → HasStored s'.own epoch a
-  mine_by s' address width value a byte are (Some b) is either =
-      let within = covered address width value a b is in
-      let from = within.0 in
-      let below = within.1 in
-      let place : address + (a - address) ≡ a = omega (arith, from) in
-      subst (HasStored s'.own epoch) place (are.own.here (a - address) (omega (arith, from, below)))
-  mine_by s' address width value a byte are None is (inl now) = let some = now.1 in absurd cc
-  mine_by s' address width value a byte are None is (inr before) = are.own.still a (x.mine a byte before)
+  module _ (s' : Lines) (address width value : ℕ) (are : AreStored image s s' epoch (first_beside cores epoch) address width) where
+    own_still : (a : ℕ) → HasStored s.own epoch a → HasStored s'.own epoch a
+    own_still a was = elim are.own [
+      | inl same ↦ rw same was
+      | inr own ↦ own.still a was
+    ]
 
-  all_by : (s' : Lines) (address width value a byte : ℕ) → AreStored image s s' epoch address width
+    own_others : (a : ℕ) → stored address width value a ≡ None → HasStored s'.own epoch a → HasStored s.own epoch a
+    own_others a none has = elim are.own [
+      | inl same ↦ rw (← same) has
+      | inr own ↦ own.others a (outside address width value a none) has
+    ]
+
+    own_owner : (block : ℕ) → slice_index s'.own.by block ≤ epoch + 1
+    own_owner block = elim are.own [
+      | inl same ↦ rw same (x.owner block)
+      | inr own ↦ elim (own.by block) [
+        | inl before ↦ (let low = x.owner block in omega (arith, before, low))
+        | inr now ↦ omega (arith, now)
+      ]
+    ]
+
+    own_long : AreLong s'.own image.size
+    own_long = elim are.own [
+      | inl same ↦ rw same x.own_long
+      | inr own ↦ record { by = own.by_long ∙ x.own_long.by; bits = own.bits_long ∙ x.own_long.bits }
+    ]
+
+    mine_by : (a byte : ℕ) → (o : Option ℕ) → stored address width value a ≡ o → ((b : ℕ) × (stored address width value a ≡ Some b)) ⊎ (x.stored a ≡ Some byte)
+        → first_beside cores epoch < other_before s.two epoch (line_number image a) → HasStored s'.own epoch a
+    mine_by a byte (Some b) is either written =
+        let within = covered address width value a b is in
+        let from = within.0 in
+        let below = within.1 in
+        let place : address + (a - address) ≡ a = omega (arith, from) in
+        let i_low : a - address < width = omega (arith, from, below) in
+        let own = are.kept (a - address) i_low (subst (λ b'. first_beside cores epoch < other_before s.two epoch (line_number image b')) (sym place) written) in
+        subst (HasStored s'.own epoch) place (own.here (a - address) i_low)
+    mine_by a byte None is (inl now) written = let some = now.1 in absurd cc
+    mine_by a byte None is (inr before) written = own_still a (x.mine a byte before written)
+
+  all_by : (s' : Lines) (address width value a byte : ℕ) → AreStored image s s' epoch (first_beside cores epoch) address width
       → ((b : ℕ) × (stored address width value a ≡ Some b)) ⊎ (x.stored a ≡ Some byte) → slice_index s'.two.last (line_number image a) ≡ epoch + 1
   all_by s' address width value a byte are (inl now) =
       let within = covered address width value a now.0 now.1 in
@@ -200,7 +230,7 @@ module _ (image : LoadedImage) (cores epoch : ℕ) (memory now : List ℕ) (s : 
     | inr none ↦ are.lines.others (line_number image a) none ∙ x.all a byte before
   ]
 
-  noted_by : (s' : Lines) (address width value line : ℕ) → AreStored image s s' epoch address width → slice_index s'.two.last line ≡ epoch + 1
+  noted_by : (s' : Lines) (address width value line : ℕ) → AreStored image s s' epoch (first_beside cores epoch) address width → slice_index s'.two.last line ≡ epoch + 1
       → (a : ℕ) × (byte : ℕ) × (line_number image a ≡ line) × (joined (stored address width value) x.stored a ≡ Some byte)
   noted_by s' address width value line are is = elim (among image line address width) [
     | inl one ↦
@@ -211,22 +241,20 @@ module _ (image : LoadedImage) (cores epoch : ℕ) (memory now : List ℕ) (s : 
         let now = either_some (stored address width value before.0) (x.stored before.0) before.1 before.3 in (before.0, now.0, before.2, now.1))
   ]
 
-  pub lines_store : (s' : Lines) (address width value : ℕ) → (next_event image h).at ≡ stop.Store address width value → AreStored image s s' epoch address width
+  pub lines_store : (s' : Lines) (address width value : ℕ) → (next_event image h).at ≡ stop.Store address width value → AreStored image s s' epoch (first_beside cores epoch) address width
       → InLines image cores epoch memory (with_number now address width value) s' (stepped (next_event image h).now)
   lines_store s' address width value is are = record {
     stored = joined (stored address width value) x.stored;
     at = past_store image epoch memory h x.stored address width value x.at is;
     is = store_after image epoch memory h x.stored address width value x.at is ∙ ap (λ m. with_number m address width value) x.is;
-    own_long = record { by = are.own.by_long ∙ x.own_long.by; bits = are.own.bits_long ∙ x.own_long.bits };
+    own_long = own_long s' address width value are;
     lines = record { last = are.lines.last_long ∙ x.lines.last; before = are.lines.before_long ∙ x.lines.before };
-    mine = λ a byte some. mine_by s' address width value a byte are (stored address width value a) refl (either (stored address width value a) (x.stored a) byte some);
+    mine = λ a byte some written.
+        mine_by s' address width value are a byte (stored address width value a) refl (either (stored address width value a) (x.stored a) byte some) (rw (← are.lines.other (line_number image a)) written);
     others = λ a none.
         let parts = neither (stored address width value a) (x.stored a) none in
-        λ has. x.others a parts.1 (are.own.others a (outside address width value a parts.0) has);
-    owner = λ block. elim (are.own.by block) [
-      | inl same ↦ (let low = x.owner block in omega (arith, same, low))
-      | inr own ↦ omega (arith, own)
-    ];
+        λ has. x.others a parts.1 (own_others s' address width value are a parts.0 has);
+    owner = own_owner s' address width value are;
     writer = λ line. rw (are.lines.other line) (x.writer line);
     noted = λ line noted. noted_by s' address width value line are noted;
     all = λ a byte some. all_by s' address width value a byte are (either (stored address width value a) (x.stored a) byte some);

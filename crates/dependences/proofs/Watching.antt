@@ -143,7 +143,7 @@ module _ (image : LoadedImage) (watch : Watch) (h : HartState) (memory : List �
       let access = store_there image h address width value stops in
       touched_long image watch.cores watch.epoch (run_memory image watch.cores watch.epoch) memory watch.touches k.from k.in_buffers x.limits x.within address width access.wide access.aligned access.within
 
-  pub watched_store : (stored : Lines) (touched : Touched) → AreStored image watch.lines stored watch.epoch address width
+  pub watched_store : (stored : Lines) (touched : Touched) → AreStored image watch.lines stored watch.epoch (first_beside watch.cores watch.epoch) address width
       → touched ≡ after_store (after_touch watch.touches image.machine.buffer_lines watch.cores watch.epoch (line_number image address)) image.machine.buffer_lines watch.cores watch.epoch (line_number image address)
       → (new : Watch) → new.cores ≡ watch.cores → new.epoch ≡ watch.epoch → new.lines ≡ stored → new.touches ≡ touched → new.has_met ≡ false
       → IsWatched image new (stepped h) (with_number memory address width value)

@@ -1,5 +1,5 @@
 -- The line of an aligned access, and what is noted of it.
-use Rattle.std.proofs.Common.{◌≡◌, ◌≢◌, ℕ, ◌+◌, ◌/◌, ◌%◌, ◌<◌, true, List, subst, sym, ap, ◌∙◌, slice_index, arith}
+use Rattle.std.proofs.Common.{◌≡◌, ◌≢◌, ℕ, ◌+◌, ◌/◌, ◌%◌, ◌<◌, ◌≤◌, true, List, subst, sym, ap, ◌∙◌, inl, slice_index, arith}
 use Rattle.memory_bytes.specs.Bytes.{IsWidth}
 use Rattle.memory_bytes.proofs.SmallFacts.{by_width, some_wide}
 use Rattle.rv32_image.specs.Image.{LoadedImage, IsImage}
@@ -9,7 +9,7 @@ use Rattle.rv32_image.proofs.Bounds.{by_length}
 use Rattle.rv32_image.proofs.Places.{place-aligned, place-word}
 use Rattle.spec_history.specs.Conflict.{line_number}
 use Rattle.dependences.specs.KeptOwn.{HasStored}
-use Rattle.dependences.specs.KeptLines.{AreLinesMarked, AreLinesNoted, IsLineNoted, LastTwo, Lines, MeetsLine, other_before}
+use Rattle.dependences.specs.KeptLines.{AreLinesMarked, AreLinesNoted, AreStored, IsLineNoted, LastTwo, Lines, MeetsLine, other_before}
 
 word_in : (n p width i : ℕ) → is_line_length n ≡ true → IsWidth width → p % width ≡ 0 → i < width → (p + i) / n ≡ p / n
 word_in n p width i long wide =
@@ -58,3 +58,12 @@ module _ (image : LoadedImage) (is : IsImage image) (address width line : ℕ) (
 
   pub written_word : (s : Lines) (epoch first : ℕ) → (m : MeetsLine image s epoch first address width) → first < other_before s.two epoch line
   written_word s epoch first m = subst (λ l. first < other_before s.two epoch l) (word_line m.i m.within) m.written
+
+  -- a store where no epoch beside this one has stored
+  pub stored_unmarked : (old new : Lines) (epoch first : ℕ) → new.own ≡ old.own → other_before old.two epoch line ≤ first → IsLineNoted old.two new.two epoch line
+      → AreStored image old new epoch first address width
+  stored_unmarked old new epoch first same alone noted = record {
+    own = inl same;
+    kept = λ i low written. let less = subst (λ l. first < other_before old.two epoch l) (word_line i low) written in absurd (omega (arith, less, alone));
+    lines = noted_word old.two new.two epoch noted;
+  }

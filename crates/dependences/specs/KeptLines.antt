@@ -1,5 +1,5 @@
 -- What the code keeps of the lines of the caches: who did something in each last, and who stored in each.
-use Rattle.std.specs.Prelude.{◌≡◌, ◌≢◌, ℕ, zero, suc, ◌+◌, ◌%◌, ◌==◌, ◌<◌, ◌≤◌, List, length, set, slice_index, if◌then◌else◌}
+use Rattle.std.specs.Prelude.{◌≡◌, ◌≢◌, ◌⊎◌, ℕ, zero, suc, ◌+◌, ◌%◌, ◌==◌, ◌<◌, ◌≤◌, List, length, set, slice_index, if◌then◌else◌}
 use Rattle.memory_bytes.specs.Bytes.{IsWidth}
 use Rattle.rv32_image.specs.Image.{LoadedImage}
 use Rattle.spec_history.specs.Conflict.{line_number, line_count}
@@ -72,9 +72,10 @@ pub record AreLinesMarked (image : LoadedImage) (old new : List ℕ) (epoch addr
   pub here : (i : ℕ) → i < width → slice_index new (line_number image (address + i)) ≡ epoch + 1
   pub others : (l : ℕ) → ((i : ℕ) → i < width → l ≢ line_number image (address + i)) → slice_index new l ≡ slice_index old l
 
--- an epoch stores these bytes
-pub record AreStored (image : LoadedImage) (old new : Lines) (epoch address width : ℕ) : Type 0 where
-  pub own : AreOwned old.own new.own epoch address width
+-- an epoch stores these bytes: it is kept of which bytes where an epoch beside it, this one or a later one, has stored in their line
+pub record AreStored (image : LoadedImage) (old new : Lines) (epoch first address width : ℕ) : Type 0 where
+  pub own : (new.own ≡ old.own) ⊎ AreOwned old.own new.own epoch address width
+  pub kept : (i : ℕ) → i < width → first < other_before old.two epoch (line_number image (address + i)) → AreOwned old.own new.own epoch address width
   pub lines : AreLinesNoted image old.two new.two epoch address width
 
 -- a byte of these, which the epoch has not stored, lies in a line in which this epoch or a later one has

@@ -23,7 +23,7 @@ pub record InLines (image : LoadedImage) (cores epoch : ℕ) (memory now : List 
   pub is : at.after ≡ now
   pub own_long : AreLong s.own image.size
   pub lines : AreLines image s.two
-  pub mine : (a byte : ℕ) → stored a ≡ Some byte → HasStored s.own epoch a
+  pub mine : (a byte : ℕ) → stored a ≡ Some byte → first_beside cores epoch < other_before s.two epoch (line_number image a) → HasStored s.own epoch a
   pub others : (a : ℕ) → stored a ≡ None → HasStored s.own epoch a → ⊥
   pub owner : (block : ℕ) → slice_index s.own.by block ≤ epoch + 1
   pub writer : (line : ℕ) → IsLastOf (StoresInLine image cores line) epoch (other_before s.two epoch line)
@@ -62,8 +62,9 @@ pub record IsQuiet (watch : Watch) (line : ℕ) : Type 0 where
   pub touched : slice_index watch.touches.two.last line ≡ watch.epoch + 1
   pub alone : other_before watch.lines.two watch.epoch line ≤ first_beside watch.cores watch.epoch
 
--- the epoch stores in this line
+-- the epoch stores in this line, and no epoch beside it does: a store of the epoch there changes nothing
 pub record IsStoredIn (watch : Watch) (line : ℕ) : Type 0 where
+  pub alone : other_before watch.lines.two watch.epoch line ≤ first_beside watch.cores watch.epoch
   pub last : slice_index watch.lines.two.last line ≡ watch.epoch + 1
   pub touched : slice_index watch.touches.two.last line ≡ watch.epoch + 1
   pub stored : slice_index watch.touches.stored line ≡ watch.epoch + 1

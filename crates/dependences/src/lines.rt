@@ -87,40 +87,35 @@ impl Lines {
         }
     }
 
-    /// Notes that this epoch stores these bytes, which lie in this line.
+    /// Notes that this epoch stores these bytes, which lie in this line, where epochs from `first` on are beside it. Answers the line, and
+    /// 1, where none of these has stored there, else 0.
     #[inline(always)]
-    pub(crate) fn store(&mut self, _image: &Image, line: u32, epoch: Epoch, addr: u32, width: u32)
+    pub(crate) fn store(
+        &mut self,
+        _image: &Image,
+        line: u32,
+        epoch: Epoch,
+        first: u32,
+        addr: u32,
+        width: u32,
+    ) -> u32
+        requires small { line < 2 ^ 28 }
         requires limits { IsImage _image.now }
         requires line { line ≡ line_number _image.now addr }
         requires inside { line < line_count _image.now }
         requires access { spec.IsAllowed _image.now addr width }
         requires own { AreLong self.old.own _image.now.size }
         requires lines { spec.AreLines _image.now self.old.two }
-        ensures stored { spec.AreStored _image.now self.old self.new epoch addr width }
+        ensures stored { spec.AreStored _image.now self.old self.new epoch first addr width }
         ensures noted { spec.IsLineNoted self.old.two self.new.two epoch line }
+        ensures alone { (l : ℕ) → result ≡ l + 1 → (l ≡ line) × (spec.other_before self.new.two epoch line ≤ first) }
     {
+        if self.two.other_before(epoch, line) <= first {
+            self.two.note(epoch, line);
+            return line + 1;
+        }
         self.own.mark(epoch, addr, width);
         self.two.note(epoch, line);
-    }
-
-    /// The same where it has stored in this line before.
-    #[inline(always)]
-    pub(crate) fn store_again(
-        &mut self,
-        _image: &Image,
-        line: u32,
-        epoch: Epoch,
-        addr: u32,
-        width: u32,
-    )
-        requires limits { IsImage _image.now }
-        requires line { line ≡ line_number _image.now addr }
-        requires access { spec.IsAllowed _image.now addr width }
-        requires own { AreLong self.old.own _image.now.size }
-        requires again { slice_index self.old.two.last line ≡ epoch + 1 }
-        ensures stored { spec.AreStored _image.now self.old self.new epoch addr width }
-        ensures same { self.new.two ≡ self.old.two }
-    {
-        self.own.mark(epoch, addr, width);
+        0
     }
 }

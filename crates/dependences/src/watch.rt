@@ -24,7 +24,7 @@ pub(crate) struct Watch {
     has_met: bool,
     /// The line at hand for loads, and 1, or 0 for none: there a load of the epoch changes nothing.
     quiet: u32,
-    /// The line at hand for stores, and 1, or 0 for none: there a store of the epoch changes who stored its bytes, and nothing else.
+    /// The line at hand for stores, and 1, or 0 for none: there a store of the epoch changes nothing.
     stored: u32,
 }
 
@@ -110,13 +110,15 @@ impl Notes for Watch {
         }
         let line = line_of(image, addr);
         if self.stored == line + 1 {
-            self.lines.store_again(image, line, self.epoch, addr, width);
             return;
         }
         let epoch = self.epoch.number();
-        self.lines.store(image, line, self.epoch, addr, width);
+        let first = first_beside(self.cores, epoch);
+        let alone = self
+            .lines
+            .store(image, line, self.epoch, first, addr, width);
         self.touches.touch(image, self.cores, epoch, line);
         self.touches.store(image, self.cores, epoch, line);
-        self.stored = line + 1;
+        self.stored = alone;
     }
 }
