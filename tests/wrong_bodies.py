@@ -481,15 +481,16 @@ def repository(top: Path) -> None:
 
 
 def kit_of_its_own(folder: Path) -> str:
-    """A folder with links to all that the kit has, beside which nothing is kept yet, and an `rt` that names it: the
-    path on which it stands."""
+    """A folder with links to all that the kit has, beside which nothing is kept yet, and an `rt` that names it, as that
+    of the kit does, by its page and its KIT-ID: the path on which it stands."""
     rt = shutil.which("rt")
     page = Path(called_well(["rt", "doc"]).strip())
     (folder / "kit").mkdir()
     for it in page.parent.iterdir():
         (folder / "kit" / it.name).symlink_to(it)
     write(folder / "bin/rt",
-          f'#!/bin/sh\n[ "$1" != doc ] || {{ echo {folder}/kit/{page.name}; exit; }}\nexec {rt} "$@"\n').chmod(0o755)
+          f'#!/bin/sh\ncase $1 in\ndoc) echo {folder}/kit/{page.name} ;;\nversion) cat {folder}/kit/KIT-ID ;;\n'
+          f'*) exec {rt} "$@" ;;\nesac\n').chmod(0o755)
     return f"{folder}/bin:{os.environ['PATH']}"
 
 
