@@ -305,8 +305,9 @@ def gains(folder: Path) -> Iterator[Check]:
                    else f"got {far}, {told}")
 
 
-def answer_of(source: Path, line: str, folder: Path, kit: Kit | None = None, **choice: int) -> str:
-    """What is told of a loop, by this plug-in or by another; of its iterations from 2 on, or as chosen."""
+def answer_of(source: Path, line: str, folder: Path, kit: Kit | None = None, seconds: int = 4, **choice: int) -> str:
+    """What is told of a loop, by this plug-in or by another; of its iterations from 2 on, or as chosen. A run that
+    takes more than so many seconds is ended."""
     from loops.loops_of.build import Builder, Layout, kit_of
     from loops.loops_of.emulator import Given
     from loops.loops_of.making import Choice, Maker
@@ -315,7 +316,7 @@ def answer_of(source: Path, line: str, folder: Path, kit: Kit | None = None, **c
     try:
         layout = Layout(65_536, 65_536, ROOM_OF_CHUNKS if "chunk" in choice else ROOM)
         builder = Builder([source], [], layout, folder, kit or kit_of())
-        maker = Maker(builder, Given(seconds=4), Choice(**(choice or {"first": 2})))
+        maker = Maker(builder, Given(seconds=seconds), Choice(**(choice or {"first": 2})))
         return maker.made(next(loop for loop in builder.loops if loop.place == line))[1]
     except (Otherwise, Refused, Unusable) as why:
         return str(why)
@@ -343,7 +344,8 @@ def wrong_plugins(folder: Path) -> Iterator[Check]:
             (9, "an array of variable length goes before what its length is made of", "frames.c:47",
              "the pass made a broken module")):
         os.environ["LOOPS_OF_PLANT"] = str(number)
-        said = answer_of(PROGRAMS / line.partition(":")[0], line, folder, kit)
+        # what ends does so in less than a tenth of a second
+        said = answer_of(PROGRAMS / line.partition(":")[0], line, folder, kit, 1 if told == "didn't end" else 4)
         del os.environ["LOOPS_OF_PLANT"]
         if line not in rights:
             rights[line] = answer_of(PROGRAMS / line.partition(":")[0], line, folder, kit)

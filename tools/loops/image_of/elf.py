@@ -6,7 +6,7 @@ from bisect import bisect_right
 from collections.abc import Iterator
 from contextlib import contextmanager
 from dataclasses import dataclass
-from functools import cached_property
+from functools import cache, cached_property
 from pathlib import Path
 from typing import Any
 
@@ -18,17 +18,24 @@ from .words import extension_of
 
 try:
     from elftools.construct import Array as Array, ULInt8 as ULInt8
+    from elftools.dwarf import callframe, dwarfinfo
     from elftools.elf.elffile import ELFFile as ELFFile
-    from elftools.elf.enums import ENUM_E_MACHINE, ENUM_E_TYPE
+    from elftools.elf.enums import ENUM_E_MACHINE, ENUM_E_TYPE, ENUM_ST_INFO_TYPE
 except ImportError:
     sys.path.append("/usr/lib/python3/dist-packages")       # Debian's packages, where another Python runs than Debian's
     try:
         from elftools.construct import Array as Array, ULInt8 as ULInt8
+        from elftools.dwarf import callframe, dwarfinfo
         from elftools.elf.elffile import ELFFile as ELFFile
-        from elftools.elf.enums import ENUM_E_MACHINE, ENUM_E_TYPE
+        from elftools.elf.enums import ENUM_E_MACHINE, ENUM_E_TYPE, ENUM_ST_INFO_TYPE
     except ImportError:
-        ELFFile = Array = ULInt8 = None
-        ENUM_E_MACHINE = ENUM_E_TYPE = {}
+        ELFFile = Array = ULInt8 = callframe = dwarfinfo = None
+        ENUM_E_MACHINE = ENUM_E_TYPE = ENUM_ST_INFO_TYPE = {}
+
+# pyelftools before 0.30 makes its parsers anew for each unit and for each function's frame, which takes longer than
+# what they read.
+for module in (callframe, dwarfinfo) if ELFFile else ():
+    module.DWARFStructs = cache(module.DWARFStructs)
 
 COMPRESSED, FLOAT_ABI, EMBEDDED = 1, 6, 8                   # e_flags, of the RISC-V ELF psABI
 FLOAT_ABIS = {2: "ilp32f", 4: "ilp32d", 6: "ilp32q"}
@@ -36,6 +43,9 @@ WRITABLE, ALLOCATED, EXECUTABLE, THREADS, PACKED = 1, 2, 4, 0x400, 0x800    # sh
 # The bytes of a file's header, of 32 bits and of 64
 HEADER = {1: "<4sBBB9xHHIIIIIHHHHHH", 2: "<4sBBB9xHHIQQQIHHHHHH"}
 RISCV = 243
+# A symbol of 32 bits: the place of its name, its value, its size, its binding and type, its visibility, its section
+SYMBOL, LOCAL = struct.Struct("<IIIBBH"), 0
+KINDS = {number: name for name, number in ENUM_ST_INFO_TYPE.items() if name != "_default_"}
 # A file's sections that aren't in memory are read up to so many bytes in all.
 LARGEST_DEBUG = 256_000_000
 
@@ -153,11 +163,25 @@ def section_of(path: Path, one: Any) -> Section:
 
 
 def named_in(table: Any) -> Iterator[Any]:
-    """The symbols of a table that have a name. LLVM's code for RISC-V has one without a name for each line, and
-    pyelftools takes long to read so many. The name's place comes first in a symbol."""
+    """The symbols of a table that have a name. The name's place comes first in a symbol."""
     data, length = table.data(), table["sh_entsize"]
     return (table.get_symbol(number) for number in range(table.num_symbols())
             if any(data[number * length:number * length + 4]))
+
+
+def symbols_of(table: Any, header: Header) -> Iterator[Symbol]:
+    """The symbols of a table that are defined and have a name. LLVM's code for RISC-V has one without a name for each
+    line, and pyelftools takes long to read so many, and those of the C library: where they are as in each program of 32
+    bits they are read here."""
+    if (header.bits, header.little, table["sh_entsize"], table["sh_flags"] & PACKED) != (32, True, SYMBOL.size, 0):
+        yield from (Symbol(one.name, one["st_value"], one["st_size"], str(one["st_info"]["type"]),
+                           one["st_info"]["bind"] == "STB_LOCAL")
+                    for one in named_in(table) if one["st_shndx"] != "SHN_UNDEF")
+        return
+    for place, value, size, kind, _, section in SYMBOL.iter_unpack(table.data()):
+        name = table.stringtable.get_string(place) if place else ""
+        if place and section:
+            yield Symbol(name, value, size, KINDS.get(kind & 15, str(kind & 15)), kind >> 4 == LOCAL)
 
 
 class Opened:
@@ -177,9 +201,7 @@ class Opened:
                     + [first + length for first, length in self.tables])
             self.check_length(max([*ends, *(one.offset + one.size for one in self.sections if one.in_file)]))
             table = elf.get_section_by_name(".symtab")
-            self.symbols = [Symbol(one.name, one["st_value"], one["st_size"], str(one["st_info"]["type"]),
-                                   one["st_info"]["bind"] == "STB_LOCAL")
-                            for one in (named_in(table) if table else []) if one["st_shndx"] != "SHN_UNDEF"]
+            self.symbols = [*symbols_of(table, self.header)] if table else []
 
     def check_length(self, end: int) -> None:
         length = self.path.stat().st_size

@@ -80,6 +80,11 @@ class Kit:
         return self.folder / "outline.so"
 
     @property
+    def passes(self) -> Path:
+        """The plug-in's passes, as they are compiled."""
+        return self.folder / "passes.o"
+
+    @property
     def runtime(self) -> list[Path]:
         return [self.folder / "start.o", self.folder / "runtime.o"]
 
@@ -99,9 +104,11 @@ class Kit:
 
 
 def build_plugin(kit: Kit, flags: tuple[str, ...] = ()) -> None:
-    """Builds the plug-in."""
+    """Builds the plug-in. All of it but for the part that may plant a mistake is compiled once."""
     words = ["-std=c++17", "-O0", "-fPIC", "-fno-rtti", "-fno-exceptions", "-isystem", LLVM / "include", *flags]
-    run(llvm("clang++"), *words, "-shared", HERE / "pass/all.cpp", "-o", kit.plugin)
+    if not kit.passes.is_file():
+        run(llvm("clang++"), *words, "-c", HERE / "pass/all.cpp", "-o", kit.passes)
+    run(llvm("clang++"), *words, "-shared", kit.passes, HERE / "pass/planted.cpp", "-o", kit.plugin)
 
 
 def build_runtime(kit: Kit) -> None:

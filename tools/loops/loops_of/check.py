@@ -85,8 +85,9 @@ def check_image(text: str, loop: Loop, wanted: Wanted, window: Window) -> int:
     for row in report.rows:
         memory[row.address:row.address + len(row.data)] = row.data
     program = window.program
-    dead, end = range(program.at("loops_guard"), window.registers[2] // 4 * 4), program.at("loops_end")
-    words = [at for at in differing(bytes(memory), after, 0, end) if at not in dead]
+    guard, end, made = program.at("loops_guard"), program.at("loops_end"), bytes(memory)
+    dead = range(guard, max(guard, window.registers[2] // 4 * 4))
+    words = [*differing(made, after, 0, dead.start), *differing(made, after, dead.stop, end)]
     own = [at for at in words if word_of(after, at) in dead and word_of(memory, at) >= end]
     different = sorted(set(words) - set(own))
     if different:

@@ -6,22 +6,16 @@
 #include "llvm/IR/Dominators.h"
 #include "llvm/IR/Instructions.h"
 #include "llvm/IR/Module.h"
-#include <cstdlib>
 #include <optional>
 #include <string>
 #include <vector>
 
 namespace loops_of {
 
-// Whether a test plants a mistake, by its number: it builds a plug-in for that, whose environment says which one.
-#ifdef PLANTS
-inline bool planted(int Number) {
-  const char *Given = std::getenv("LOOPS_OF_PLANT");
-  return Given && std::atoi(Given) == Number;
-}
-#else
-constexpr bool planted(int) { return false; }
-#endif
+// --- planted.cpp ----------------------------------------------------------------
+
+// Whether a test plants a mistake, by its number.
+bool planted(int Number);
 
 // The linker puts variables of this section behind all others, so that those of the program stay where they were.
 constexpr const char *OwnSection = ".loops";
