@@ -48,6 +48,7 @@ SECONDS = 120
 MADE = ("runs.csv", "pairs.csv", "manifest.json", "page.html")
 IMAGE = "[loops]\na = 'counter.image'\n"
 NAMED = "[loops]\na = 'counter.image'\nb = 'named.image'\n"
+ALL_SIZES = f"versions = [1, 2]\ncores = {[*range(1, 17)]}\n"
 # What is refused, and the words of the reason.
 REFUSED = [
     ("cores = [1]\n", "loops is missing"), ("[loops]\n", "loops: {} is refused; wanted is a table of loops"),
@@ -66,10 +67,10 @@ REFUSED = [
     ("versions = [3]\n" + IMAGE, "versions[0]"),
     ("cores = " + "[" * 5000 + "\n", "plan.toml"), ("cores = [1\n", "plan.toml"),
     ("schedules = 'even'\n" + IMAGE, "schedules: \"even\""),
-    ("seeds = [" + ", ".join(map(str, range(130_000))) + "]\nschedules = ['seeded']\ncores = [1, 2, 3, 4]\n" + IMAGE,
-     "1,040,000 runs, more than 1,000,000"),
-    ("costs = [" + ", ".join(f"'bus={cost}'" for cost in range(63_000)) + "]\ncores = [1, 2, 3, 4]\nheld = true\n"
-     + IMAGE, "1,008,016 runs, more than 1,000,000"),
+    ("seeds = [" + ", ".join(map(str, range(15_626))) + "]\nschedules = ['seeded']\n" + ALL_SIZES + IMAGE,
+     "1,000,064 runs, more than 1,000,000"),
+    ("costs = [" + ", ".join(f"'bus={cost}'" for cost in range(7_812)) + "]\nheld = true\n" + ALL_SIZES + IMAGE,
+     "1,000,064 runs, more than 1,000,000"),
     ("held = 1\n" + IMAGE, "held: 1 is refused; wanted is true or false"),
     ("costs = 'bus=1'\n" + IMAGE, "wanted is a list of costs"),
     ("costs = [1]\n" + IMAGE, "costs[0]: 1 is refused; wanted is what turns cost"),

@@ -101,9 +101,9 @@ def with_whole_paths(words: list[str]) -> list[str]:
 
 def snakemake(room: Path, wishes: Wishes, rows: list[Path], progress: Progress, lock: int) -> int:
     """Runs Snakemake over the chunks of a folder, and answers its status. The folder stays locked while any of it
-    runs."""
+    runs. No job needs another one, so that it needs no solver to say which begin."""
     own = ["--snakefile", str(SNAKEFILE), "--directory", str(room), "--cores", str(wishes.jobs), "--force-use-threads",
-           "--keep-going", "--quiet", "all", "--nolock"]
+           "--scheduler", "greedy", "--keep-going", "--quiet", "all", "--nolock"]
     # Python takes no module from the folder that a job is called in, nor writes beside the tree's
     env = {**os.environ, "PYTHONSAFEPATH": "1", "PYTHONDONTWRITEBYTECODE": "1"}
     process = subprocess.Popen(["snakemake", *own, *with_whole_paths(wishes.words)], env=env, start_new_session=True,
