@@ -199,7 +199,7 @@ class Loop:
 
 
 def read_loops(text: str, unit: "Unit") -> list[Loop]:
-    """What loops-list and loops-outline tell."""
+    """What loops-list tells."""
     loops: list[Loop] = []
     for line in text.splitlines():
         words = line.split("\t")
@@ -282,9 +282,9 @@ class Unit:
     def path(self, ending: str) -> Path:
         return self.builder.folder / f"{self.number}.{ending}"
 
-    def compiled(self, bitcode: Path, ending: str) -> Path:
+    def compiled(self, bitcode: Path, ending: str, *words: object) -> Path:
         made = self.path(ending)
-        run(llvm("clang"), *TARGET, *BACK, "-c", "-o", made, bitcode)
+        run(llvm("clang"), *TARGET, *BACK, *words, "-c", "-o", made, bitcode)
         return made
 
     @cached_property
@@ -304,10 +304,10 @@ class Unit:
         return self.compiled(marked, "marked.o")
 
     def outlined(self, number: int) -> Path:
-        """The unit with one loop's iteration as a function."""
-        made = self.path("loop.bc")
-        self.builder.kit.opt("loops-outline", self.ready, f"-loops-of-number={number}", "-o", made)
-        return self.compiled(made, "loop.o")
+        """The unit with one loop's iteration as a function: the compiler takes it out before its own passes."""
+        plugin = self.builder.kit.plugin
+        return self.compiled(self.ready, "loop.o", f"-fpass-plugin={plugin}", "-Xclang", "-load", "-Xclang", plugin,
+                             "-mllvm", f"-loops-of-number={number}")
 
 
 class Builder:

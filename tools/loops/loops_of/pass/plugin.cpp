@@ -1,7 +1,7 @@
 // An LLVM plug-in with the passes of tools/loops-of. `loops-keep` keeps variables as they are in the source,
-// `loops-frames` tells where arrays of frames are, `loops-list` tells of each loop, `loops-count` marks them, and
-// `loops-outline` makes the iteration of one of them a function. What is told are lines on standard output, words that
-// tabs part.
+// `loops-frames` tells where arrays of frames are, `loops-list` tells of each loop, and `loops-count` marks them. Where
+// `-loops-of-number` says one, its iteration becomes a function before a compiler's own passes. What is told are lines
+// on standard output, words that tabs part.
 #include "loops_of.h"
 #include "llvm/IR/DIBuilder.h"
 #include "llvm/IR/DebugInfo.h"
@@ -20,7 +20,7 @@ using namespace llvm;
 using namespace loops_of;
 
 static cl::opt<unsigned> Wanted("loops-of-number", cl::init(0),
-                                cl::desc("which loop loops-outline takes, counted from 1 as loops-list does"));
+                                cl::desc("which loop becomes a function, counted from 1 as loops-list does"));
 static cl::opt<unsigned> FirstMark("loops-of-first", cl::init(0),
                                    cl::desc("the number of the first loop that loops-count marks"));
 
@@ -207,7 +207,6 @@ bool addPass(StringRef Name, ModulePassManager &Passes, ArrayRef<PassBuilder::Pi
   else if (Name == "loops-frames") Passes.addPass(Frames());
   else if (Name == "loops-list") Passes.addPass(List());
   else if (Name == "loops-count") Passes.addPass(Count());
-  else if (Name == "loops-outline") Passes.addPass(Outline());
   else return false;
   return true;
 }
@@ -216,5 +215,10 @@ bool addPass(StringRef Name, ModulePassManager &Passes, ArrayRef<PassBuilder::Pi
 
 extern "C" LLVM_ATTRIBUTE_WEAK PassPluginLibraryInfo llvmGetPassPluginInfo() {
   return {LLVM_PLUGIN_API_VERSION, "loops-of", "1",
-          [](PassBuilder &Builder) { Builder.registerPipelineParsingCallback(addPass); }};
+          [](PassBuilder &Builder) {
+            Builder.registerPipelineParsingCallback(addPass);
+            Builder.registerPipelineStartEPCallback([](ModulePassManager &Passes, OptimizationLevel) {
+              if (Wanted != 0) Passes.addPass(Outline());
+            });
+          }};
 }
