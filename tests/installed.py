@@ -52,9 +52,10 @@ class Environment:
         pip = ["-m", "pip", "--no-input", "--disable-pip-version-check"]
         called_well([by, *pip, "wheel", "--no-build-isolation", "--no-index", "--no-deps", "--wheel-dir", str(room),
                      "."], cwd=source)
-        called_well([by, "-m", "venv", str(room / "environment")])
+        # without a pip of its own, which takes longer to install than all else: this one installs into it
+        called_well([by, "-m", "venv", "--without-pip", str(room / "environment")])
         wheel = str(next(room.glob("*.whl")))
-        called_well([str(self.bin / "python"), *pip, "install", "--no-index", "--no-deps", wheel])
+        called_well([by, *pip, "--python", str(self.bin / "python"), "install", "--no-index", "--no-deps", wheel])
         shutil.rmtree(source)
         self.programs.mkdir()
         for name in PROGRAMS:
