@@ -47,7 +47,7 @@ pub later_old : (list : List Dependence) (x : Dependence) (nearest : Option ℕ)
 later_old list x (Some distance) later is = (is.0, is.1, got_old list x is.1 is.0 is.2, is.3, is.4)
 later_old list x None later is = tt
 
-got_either : {X : Type 0} (xs : List X) (y x : X) (k : ℕ) → slice_get (xs ++ y ∷ []) k ≡ Some x → (slice_get xs k ≡ Some x) ⊎ ((k ≡ length xs) × (y ≡ x))
+pub got_either : {X : Type 0} (xs : List X) (y x : X) (k : ℕ) → slice_get (xs ++ y ∷ []) k ≡ Some x → (slice_get xs k ≡ Some x) ⊎ ((k ≡ length xs) × (y ≡ x))
 got_either [] y x zero is = inr (refl, cc)
 got_either [] y x (suc k) is = absurd cc
 got_either (z ∷ xs) y x zero is = inl is

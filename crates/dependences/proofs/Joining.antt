@@ -1,11 +1,12 @@
 -- Sums of dependences by pairs of instructions.
-use Rattle.std.proofs.Common.{◌≡◌, ℕ, ◌==◌, ◌&&◌, Bool, true, false, cond, nat_lt, List, [], ◌∷◌, ◌++◌, Option, None, refl, sym, ap, ◌∙◌, eqb-true}
-use Rattle.std.proofs.lemmas.Bool.{and_parts}
+use Rattle.std.proofs.Common.{◌≡◌, ◌⊎◌, ℕ, suc, ◌-◌, ◌==◌, ◌≤◌, ◌&&◌, Bool, true, false, cond, nat_lt, List, [], ◌∷◌, ◌++◌, Option, Some, None, min, refl, sym, ap, ◌∙◌, inl, inr, arith, eqb-true}
+use Rattle.std.proofs.lemmas.Bool.{and_parts, cases_lt}
 use Rattle.std.specs.Ordering.{is_eq, nat_cmp}
 use Rattle.memory_bytes.proofs.SmallFacts.{is_eq_by_tests, is_eq_then, less_apart}
 use Rattle.dependences.specs.declared.flow.Dependence.{Dependence}
 use Rattle.dependences.specs.declared.pairs.PairSum.{PairSum}
-use Rattle.dependences.specs.Pairs.{by_pcs, joins, pair_sum, sum_after, sum_with}
+use Rattle.dependences.specs.Pairs.{by_pcs, joins, pair_sum, sum_after, sum_more, sum_of_one, sum_with}
+use Rattle.dependences.specs.Kept.{HasAsNear}
 
 -- ---- the same pcs
 
@@ -38,3 +39,42 @@ sums_more store load before after x old new was all updated before_it now =
     updated ∙ (ap (λ b. cond b (sum_with was x) old) (at_pcs store load x)
     ∙ (more_by store load before x old was (joins store load x) refl before_it now
     ∙ (sym (sum_after_more store load None before x) ∙ ap (pair_sum store load) (sym all))))
+
+-- ---- the least distance
+
+-- one of these dependences, or what was summed up before, is as near as the sum
+least_among : (store load : ℕ) (before : Option PairSum) (list : List Dependence) (sum : PairSum) → sum_after store load before list ≡ Some sum
+    → HasAsNear list sum.least ⊎ ((was : PairSum) × (before ≡ Some was) × (was.least ≤ sum.least))
+least_among store load before [] sum is = inr (sum, is, omega arith)
+least_among store load before (x ∷ rest) sum is = by_test (joins store load x) (λ o now. least_among store load o rest sum now) is where
+  by_before : (o : Option PairSum) (was : PairSum) → sum_with o x ≡ Some was → was.least ≤ sum.least
+      → HasAsNear (x ∷ rest) sum.least ⊎ ((old : PairSum) × (o ≡ Some old) × (old.least ≤ sum.least))
+  by_before None was same low =
+      let this : was.least ≡ x.later - x.earlier = ap (λ (s : PairSum). s.least) (let one : was ≡ sum_of_one x = cc in one) in
+      inl (0, x, refl, omega (arith, this, low))
+  by_before (Some old) was same low =
+      let least : was.least ≡ min old.least (x.later - x.earlier) = ap (λ (s : PairSum). s.least) (let one : was ≡ sum_more old x = cc in one) in
+      elim (cases_lt (x.later - x.earlier) old.least) [
+        | inl less ↦ inl (0, x, refl, omega (arith, least, low, less))
+        | inr more ↦ inr (old, refl, omega (arith, least, low, more))
+      ]
+
+  by_test : (b : Bool)
+      → ((o : Option PairSum) → sum_after store load o rest ≡ Some sum → HasAsNear rest sum.least ⊎ ((was : PairSum) × (o ≡ Some was) × (was.least ≤ sum.least)))
+      → sum_after store load (cond b (sum_with before x) before) rest ≡ Some sum
+      → HasAsNear (x ∷ rest) sum.least ⊎ ((was : PairSum) × (before ≡ Some was) × (was.least ≤ sum.least))
+  by_test true among now = elim (among (sum_with before x) now) [
+    | inl near ↦ inl (suc near.0, near.1, near.2, near.3)
+    | inr was ↦ by_before before was.0 was.1 was.2
+  ]
+  by_test false among now = elim (among before now) [
+    | inl near ↦ inl (suc near.0, near.1, near.2, near.3)
+    | inr was ↦ inr was
+  ]
+
+-- so near one of these is whose sum of this pair is no farther
+pub as_near : (store load : ℕ) (list : List Dependence) (sum : PairSum) (distance : ℕ) → pair_sum store load list ≡ Some sum → sum.least ≤ distance → HasAsNear list distance
+as_near store load list sum distance is low = elim (least_among store load None list sum is) [
+  | inl near ↦ (near.0, near.1, near.2, (let least = near.3 in omega (arith, least, low)))
+  | inr was ↦ (let none = was.1 in absurd cc)
+]

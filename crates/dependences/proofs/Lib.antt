@@ -29,6 +29,7 @@ pub mod Ending
 -- The loads that depend on earlier epochs.
 pub mod Flowing
 pub mod Joining
+mod Nearing
 pub mod Readying
 pub mod Running
 -- The pieces of memory in which epochs store.

@@ -17,7 +17,7 @@ use Rattle.rv32_exec.proofs.Runs.{next_event-executes, next_event-stops}
 use Rattle.dependences.specs.declared.flow.Dependence.{Dependence}
 use Rattle.dependences.specs.declared.flow.Flow.{Flow}
 use Rattle.dependences.specs.Conflict.{memory_before}
-use Rattle.dependences.specs.Kept.{AreAll, AreKept, CanRun, IsLeast, IsNext, behind, load_behind, nearer, next_runs}
+use Rattle.dependences.specs.Kept.{AreAll, AreKept, CanRun, IsLeast, IsNearestOf, IsNext, behind, load_behind, nearer, next_runs}
 use Rattle.dependences.specs.KeptStores.{AreMarked, AreStoresKept, IsNearest, IsNearestByte, IsNoted, Stores, nearest_after, noted, noted_at}
 use Rattle.dependences.specs.Flow.{AreDependences}
 use Rattle.dependences.specs.Lengths.{Lasts}
@@ -239,7 +239,7 @@ ended_at keeps image flow epoch h at first memory {was} is fixed x room stops no
 
 pub started_at : {F : Type 0} (keeps : F → List Dependence → Type 0) (image : LoadedImage) (flow : Flow F) (epoch : ℕ) (memory : List ℕ) → flow.epoch ≡ epoch → CanRun image epoch memory
     → first_epochs image epoch ≡ record { end = end.Done epoch; bytes = memory } → (found : List Dependence) → keeps flow.found found → AreStoresKept image epoch flow.stores found
-    → AreKept image epoch flow.stores.writers flow.nearest → IsNearestLater found flow.nearest flow.later → IsRight keeps image flow (start_of image epoch) memory
+    → AreKept image epoch flow.stores.writers flow.nearest → IsNearestOf found flow.nearest flow.later → IsRight keeps image flow (start_of image epoch) memory
 started_at keeps image flow epoch memory is run before found list stores writers later = record {
   limits = run.limits;
   long = stores.long;
@@ -278,7 +278,7 @@ module _ {F : Type 0} (keeps : F → List Dependence → Type 0) (image : Loaded
         found = k.found;
         list = k.list;
         are = all_dependences image ran k.found all k.stores.list;
-        later = k.later;
+        later = k.later.later;
         nearest = nearest_of image ran flow.nearest (λ earlier later depends. all.no_more later depends.within depends.in_order) k.writers.least;
         lasts = record { all = subst (AreAll image) (sym kept.long) all; each = λ d low. kept.each d (subst (λ n. d < n) kept.long low) };
       }

@@ -1,6 +1,6 @@
 -- The last stores of bytes, of which those of a word that one store has stored whole are kept once.
 use Rattle.std.proofs.Common.{subst, set, map, false, ◌-◌, [], ◌∷◌, ◌++◌, ◌≡◌, ℕ, zero, suc, ◌+◌, ◌/◌, ◌%◌, ◌<◌, ◌≤◌, List, length, Some, None, slice_index, refl, sym, ap, ◌∙◌, inl, inr, arith}
-use Rattle.std.proofs.lemmas.Bool.{cases_lt}
+use Rattle.std.proofs.lemmas.Bool.{cases_lt, ne_eqb}
 use Rattle.memory_bytes.specs.Bytes.{IsWidth}
 use Rattle.memory_bytes.proofs.SmallFacts.{by_width, some_wide}
 use Rattle.dependences.specs.declared.byte_stores.StoredBy.{StoredBy}
@@ -11,13 +11,12 @@ use Rattle.dependences.specs.declared.word_stores.Word.{Word}
 use Rattle.dependences.specs.declared.word_stores.Word.TheVariants.{Untouched, Whole, Bytes}
 use Rattle.std.proofs.Math.ListN.{get_or, get_or-map}
 use Rattle.std.proofs.lemmas.List.{get_or-set_same, get_or-set_other, length-map, length-set, map-set}
-use Rattle.dependences.specs.Kept.{IsMarked, nearer}
+use Rattle.dependences.specs.Kept.{IsMarked, IsNearestOf, nearer}
 use Rattle.dependences.specs.KeptMarks.{filled}
 use Rattle.dependences.specs.KeptStores.{AreMarked, IsNearestByte, Stores, dependence_at}
 use Rattle.dependences.specs.KeptBytes.{no_store, numbers_of, store_at}
 use Rattle.dependences.specs.KeptLast.{AreLast, IsLast, dependence_by}
-use Rattle.dependences.specs.KeptRun.{IsLoadKept}
-use Rattle.dependences.specs.Nearest.{IsNearestLater}
+use Rattle.dependences.specs.KeptRun.{IsLoadKept, IsSame}
 use Rattle.dependences.proofs.Marking.{filled_long, none_after}
 use Rattle.dependences.specs.KeptWords.{AreSpread, AreWords, IsPut, last_of, last_stores, listed, of_byte, of_bytes, word_at, word_of, words_of}
 
@@ -190,7 +189,7 @@ pub kept_some : {F : Type 0} (keeps : F → List Dependence → Type 0) (old new
     → IsNearestByte old.stores.writers old.epoch address width (Some last.byte) → IsLast old.stores last.byte last.by
     → new.nearest ≡ nearer old.nearest (Some (old.epoch + 1 - last.by.writer))
     → ((list : List Dependence) → keeps old.found list → keeps new.found (list ++ dependence_by last old.epoch pc done ∷ []))
-    → ((list : List Dependence) → IsNearestLater list old.nearest old.later → IsNearestLater (list ++ dependence_by last old.epoch pc done ∷ []) new.nearest new.later)
+    → ((list : List Dependence) → IsNearestOf list old.nearest old.later → IsNearestOf (list ++ dependence_by last old.epoch pc done ∷ []) new.nearest new.later)
     → IsLoadKept keeps old new pc done address width
 kept_some keeps old new pc done address width last room epoch stores near is nearest found later =
     let same = dependence_is old.stores last old.epoch pc done is in
@@ -204,6 +203,25 @@ kept_some keeps old new pc done address width last room epoch stores near is nea
       found = λ list keeps. rw (← same) (found list keeps);
       later = λ list is. rw (← same) (later list is);
     }
+
+-- what is kept after a load, where all was as before it
+pub kept_from : {F : Type 0} (keeps : F → List Dependence → Type 0) (old mid new : Flow F) (pc done address width : ℕ) → IsSame keeps old mid
+    → IsLoadKept keeps mid new pc done address width → IsLoadKept keeps old new pc done address width
+kept_from keeps old mid new pc done address width same it = record {
+  epoch = it.epoch ∙ same.epoch;
+  stores = it.stores ∙ same.stores;
+  byte = it.byte;
+  near = subst (λ (s : Stores). IsNearestByte s.writers old.epoch address width it.byte) same.stores (subst (λ e. IsNearestByte mid.stores.writers e address width it.byte) same.epoch it.near);
+  nearest = rw (← same.stores, ← same.epoch, ← same.nearest) it.nearest;
+  room = sym same.room ∙ it.room;
+  found = λ list keeps. rw (← same.stores, ← same.epoch) (it.found list (same.found list keeps));
+  later = λ list near. rw (← same.stores, ← same.epoch) (it.later list (rw (same.nearest, same.later) near));
+}
+
+-- the last store of a whole word, by an earlier epoch, is kept as it is
+pub whole_of : (by : StoredBy) (epoch : ℕ) → (0 < by.writer) × (by.writer ≤ epoch) → epoch < 65536 → word_of by ≡ Whole by
+whole_of by epoch before short =
+    rw (ne_eqb by.writer 0 (λ is. omega (arith, is, before.0)), ne_eqb by.writer 4294967295 (λ is. omega (arith, is, before.1, short))) refl
 
 -- ---- one byte more
 

@@ -1,5 +1,5 @@
 -- What the code keeps of the run in order: who wrote each byte last, 0 for nobody and else the epoch's number and 1.
-use Rattle.std.specs.Prelude.{◌≡◌, ℕ, zero, suc, ◌+◌, ◌-◌, ◌==◌, ◌||◌, ◌<◌, ◌≤◌, Bool, true, false, not, List, length, Option, Some, None, nat_lt, slice_index, if◌then◌else◌}
+use Rattle.std.specs.Prelude.{◌≡◌, ℕ, zero, suc, ◌+◌, ◌-◌, ◌==◌, ◌||◌, ◌<◌, ◌≤◌, Bool, true, false, not, List, length, Option, Some, None, nat_lt, slice_get, slice_index, if◌then◌else◌}
 use Rattle.rv32_exec.specs.declared.sequential.End.TheVariants.{Done}
 use Rattle.rv32_exec.specs.declared.stop.Stop.{Stop}
 use Rattle.rv32_exec.specs.declared.stop.Stop.TheVariants.{Load, Store, Ended, Fault}
@@ -8,7 +8,8 @@ use Rattle.rv32_exec.specs.Hart.{HartState}
 use Rattle.rv32_exec.specs.Sequential.{exits, first_epochs}
 use Rattle.dependences.specs.Paths.{ReadsOutside, Stores}
 use Rattle.dependences.specs.Conflict.{ConflictInOrder, IsInOrder, memory_before}
-use Rattle.dependences.specs.Nearest.{Depends}
+use Rattle.dependences.specs.declared.flow.Dependence.{Dependence}
+use Rattle.dependences.specs.Nearest.{Depends, IsNearestLater}
 
 -- ---- distances
 
@@ -16,6 +17,31 @@ abbrev pub nearer : Option ℕ → Option ℕ → Option ℕ
 nearer (Some first) (Some second) = Some (if nat_lt first second then first else second)
 nearer (Some first) None = Some first
 nearer None second = second
+
+-- a dependence of these instructions, at this distance, by this byte
+pub record IsSuch (store load distance byte : ℕ) (one : Dependence) : Type 0 where
+  pub stored : one.store_pc ≡ store
+  pub loaded : one.load_pc ≡ load
+  pub far : one.later - one.earlier ≡ distance
+  pub by : one.byte ≡ byte
+
+-- one of these dependences is as near as that
+abbrev pub HasAsNear : List Dependence → ℕ → Type 0
+HasAsNear list distance = (place : ℕ) × (one : Dependence) × (slice_get list place ≡ Some one) × (one.later - one.earlier ≤ distance)
+
+-- the nearest is no farther than that
+abbrev pub IsAtMost : Option ℕ → ℕ → Type 0
+IsAtMost (Some nearest) distance = nearest ≤ distance
+IsAtMost None distance = ⊥
+
+-- none of these dependences is nearer than the nearest
+abbrev pub AreNoNearer : List Dependence → Option ℕ → Type 0
+AreNoNearer list nearest = (place : ℕ) (one : Dependence) → slice_get list place ≡ Some one → IsAtMost nearest (one.later - one.earlier)
+
+-- the nearest of these dependences is so near, and this is the later epoch of such a one
+pub record IsNearestOf (list : List Dependence) (nearest : Option ℕ) (epoch : ℕ) : Type 0 where
+  pub later : IsNearestLater list nearest epoch
+  pub least : AreNoNearer list nearest
 
 -- how far an epoch is behind the last writer of a byte
 abbrev pub behind : ℕ → ℕ → Option ℕ

@@ -1,5 +1,5 @@
 -- What the code keeps of the sums of dependences: those of a few pairs of instructions at hand, and all others in a map.
-use Rattle.std.specs.Prelude.{◌≡◌, ℕ, ◌/◌, ◌%◌, ◌==◌, ◌&&◌, List, length, Option, Some, None, cond, if◌then◌else◌, slice_index_or}
+use Rattle.std.specs.Prelude.{◌≡◌, ℕ, ◌+◌, ◌*◌, ◌/◌, ◌%◌, ◌==◌, ◌&&◌, List, length, Option, Some, None, cond, if◌then◌else◌, slice_get}
 use Rattle.std.specs.BTreeMap.{BTreeMap, get}
 use Rattle.std.specs.Ordering.{is_eq}
 use Rattle.dependences.specs.declared.flow.Dependence.{Dependence}
@@ -8,14 +8,18 @@ use Rattle.dependences.specs.declared.pairs.PairSum.{PairSum}
 use Rattle.dependences.specs.declared.pairs.PairSums.{PairSums}
 use Rattle.dependences.specs.Pairs.{by_pcs, pair_sum, sum_with}
 
--- where the pair of a load is at hand
-abbrev pub slot : ℕ → ℕ
-slot load = load / 4 % 256
+-- where a pair is at hand
+abbrev pub slot : ℕ → ℕ → ℕ
+slot store load = (load + 2 * store) / 4 % 256
 
--- the sum of a pair, where this is at hand
+-- the sum of this pair, where it is the one at hand
 abbrev pub at_hand : Option Ready → ℕ → ℕ → Option PairSum
 at_hand (Some ready) store load = if (ready.store == store) && (ready.load == load) then Some ready.sum else None
 at_hand None store load = None
+
+-- the sum of a pair, where it is at hand in its place
+abbrev pub ready_sum : List Ready → ℕ → ℕ → Option PairSum
+ready_sum ready store load = at_hand (slice_get ready (slot store load)) store load
 
 -- the first, and where there is none the second
 abbrev pub sum_or : Option PairSum → Option PairSum → Option PairSum
@@ -23,13 +27,8 @@ sum_or (Some sum) other = Some sum
 sum_or None other = other
 
 -- the sum of a pair
-abbrev pub kept_sum : List (Option Ready) → BTreeMap (ℕ × ℕ) PairSum → ℕ → ℕ → Option PairSum
-kept_sum ready sums store load = sum_or (at_hand (slice_index_or ready (slot load) None) store load) (get by_pcs sums (store, load))
-
--- each pair at hand is where it is looked for
-pub record AreAtHome (ready : List (Option Ready)) : Type 0 where
-  pub long : length ready ≡ 256
-  pub home : (place : ℕ) (one : Ready) → slice_index_or ready place None ≡ Some one → slot one.load ≡ place
+abbrev pub kept_sum : List Ready → BTreeMap (ℕ × ℕ) PairSum → ℕ → ℕ → Option PairSum
+kept_sum ready sums store load = sum_or (ready_sum ready store load) (get by_pcs sums (store, load))
 
 -- the sum of this one's pair has it now, and the others stay
 abbrev pub IsAdded : PairSums → PairSums → Dependence → Type 0
@@ -38,5 +37,5 @@ IsAdded old new x = (store load : ℕ) → kept_sum new.ready.items new.sums sto
 
 -- the sums are those of these dependences
 pub record ArePairSums (s : PairSums) (list : List Dependence) : Type 0 where
-  pub home : AreAtHome s.ready.items
+  pub long : length s.ready.items ≡ 256
   pub each : (store load : ℕ) → kept_sum s.ready.items s.sums store load ≡ pair_sum store load list

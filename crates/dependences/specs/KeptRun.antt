@@ -14,7 +14,7 @@ use Rattle.dependences.specs.Conflict.{IsInOrder, memory_before}
 use Rattle.dependences.specs.Nearest.{Depends, IsNearest, IsNearestLater}
 use Rattle.dependences.specs.Flow.{AreDependences}
 use Rattle.dependences.specs.Lengths.{AreLengths, Lasts}
-use Rattle.dependences.specs.Kept.{AreAll, AreKept, DependsBefore, IsLastWriter, IsLeast}
+use Rattle.dependences.specs.Kept.{AreAll, AreKept, DependsBefore, IsLastWriter, IsLeast, IsNearestOf}
 use Rattle.dependences.specs.KeptStores.{AreBefore, AreLong, AreStoresKept, IsNearestByte, IsStoredLast, Stores, nearest_after, noted_at}
 
 -- the epoch is on its path over this memory: it has come to this hart, and these are the bytes that it has stored
@@ -67,7 +67,7 @@ pub record IsFlowKept {F : Type 0} (keeps : F → List Dependence → Type 0) (i
   pub list : keeps flow.found found
   pub stores : AreStoresKept image epoch flow.stores found
   pub writers : AreKept image epoch flow.stores.writers flow.nearest
-  pub later : IsNearestLater found flow.nearest flow.later
+  pub later : IsNearestOf found flow.nearest flow.later
   pub room : flow.is_full ≡ false
 
 -- and how many instructions each of them executes
@@ -100,7 +100,7 @@ pub record IsKeptUpTo {F : Type 0} (keeps : F → List Dependence → Type 0) (i
   pub same : next_event image from ≡ next_event image h
   pub flowing : Flowing image flow.epoch memory flow.stores from found
   pub following : Following image flow.epoch memory flow.stores.writers from flow.nearest
-  pub later : IsNearestLater found flow.nearest flow.later
+  pub later : IsNearestOf found flow.nearest flow.later
 
 -- it is so where there was memory
 pub record IsRight {F : Type 0} (keeps : F → List Dependence → Type 0) (image : LoadedImage) (flow : Flow F) (h : HartState) (memory : List ℕ) : Type 0 where
@@ -121,4 +121,13 @@ pub record IsLoadKept {F : Type 0} (keeps : F → List Dependence → Type 0) (o
   pub nearest : new.nearest ≡ nearest_after old.stores.writers old.epoch byte old.nearest
   pub room : old.is_full ≡ false
   pub found : (list : List Dependence) → keeps old.found list → keeps new.found (noted_at old.stores old.epoch pc done byte list)
-  pub later : (list : List Dependence) → IsNearestLater list old.nearest old.later → IsNearestLater (noted_at old.stores old.epoch pc done byte list) new.nearest new.later
+  pub later : (list : List Dependence) → IsNearestOf list old.nearest old.later → IsNearestOf (noted_at old.stores old.epoch pc done byte list) new.nearest new.later
+
+-- it is all kept as before
+pub record IsSame {F : Type 0} (keeps : F → List Dependence → Type 0) (old new : Flow F) : Type 0 where
+  pub epoch : new.epoch ≡ old.epoch
+  pub stores : new.stores ≡ old.stores
+  pub nearest : new.nearest ≡ old.nearest
+  pub later : new.later ≡ old.later
+  pub room : new.is_full ≡ old.is_full
+  pub found : (list : List Dependence) → keeps old.found list → keeps new.found list

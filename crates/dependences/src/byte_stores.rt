@@ -38,7 +38,7 @@ impl StoredBy {
         ensures is { result ≡ true → (0 < self.writer) × (self.writer ≤ epoch) }
         ensures not { result ≡ false → self.writer ≤ epoch → self.writer ≡ 0 }
     {
-        0 < self.writer && self.writer <= epoch.number()
+        self.writer.wrapping_sub(1) < epoch.number()
     }
 }
 

@@ -4,14 +4,14 @@ ghost use Rattle.rv32_exec.specs.declared.sequential.End.TheVariants.{Done};
 ghost use Rattle.rv32_exec.specs.Sequential.{first_epochs};
 ghost use Rattle.dependences.specs.declared.flow.Dependence.{Dependence};
 ghost use Rattle.dependences.specs.Flow.{AreDependences};
-ghost use Rattle.dependences.specs.Kept.{CanRun, IsNext};
+ghost use Rattle.dependences.specs.Kept.{AreNoNearer, CanRun, HasAsNear, IsNearestOf, IsNext, IsSuch};
 ghost use Rattle.dependences.specs.Kept as spec_kept;
-ghost use Rattle.dependences.specs.KeptRun.{HaveAllRun, IsFlowKept, IsLeft, IsLoadKept, IsRunKept};
+ghost use Rattle.dependences.specs.KeptRun.{HaveAllRun, IsFlowKept, IsLeft, IsLoadKept, IsRunKept, IsSame};
 ghost use Rattle.dependences.specs.KeptPairs.{ArePairSums};
 ghost use Rattle.dependences.specs.KeptLast.{dependence_by};
 ghost use Rattle.dependences.specs.KeptStores as spec;
 ghost use Rattle.dependences.specs.Lengths.{AreLengths, Lasts};
-ghost use Rattle.dependences.specs.Nearest.{IsLaterAt, IsNearest, IsNearestLater};
+ghost use Rattle.dependences.specs.Nearest.{IsLaterAt, IsNearest};
 ghost use Rattle.dependences.specs.Summed.{AreSums};
 
 use crate::ends::next_runs;
@@ -154,6 +154,14 @@ pub(crate) trait Found: Drop {
         requires order { one.earlier ≤ one.later }
         requires kept { (list : List Dependence) × keeps self.old list }
         ensures { OnOk result ((list : List Dependence) → keeps self.old list → keeps self.new (list ++ one ∷ [])) };
+
+    /// Keeps one more of these instructions, at this distance and by this byte, where that is all that it keeps of it, and one before
+    /// is as near. Answers whether it does; else nothing changes.
+    fn counts(&mut self, store_pc: u32, load_pc: u32, distance: u32, byte: u32) -> bool
+        requires { (list : List Dependence) × keeps self.old list }
+        ensures kept { result ≡ true → (list : List Dependence) → keeps self.old list → (one : Dependence) → IsSuch store_pc load_pc distance byte one → keeps self.new (list ++ one ∷ []) }
+        ensures near { result ≡ true → (list : List Dependence) → keeps self.old list → HasAsNear list distance }
+        ensures same { result ≡ false → (list : List Dependence) → keeps self.old list → keeps self.new list };
 }
 
 impl Found for Vec<Dependence> {
@@ -161,6 +169,10 @@ impl Found for Vec<Dependence> {
 
     fn add(&mut self, one: Dependence) -> Result<(), NoMemory> {
         self.push(one).map_err(|_| NoMemory)
+    }
+
+    fn counts(&mut self, _store_pc: u32, _load_pc: u32, _distance: u32, _byte: u32) -> bool {
+        false
     }
 }
 
@@ -228,6 +240,49 @@ impl<F: Found> Flow<F> {
         requires small { length self.old.stores.writers < 2 ^ 32 }
         requires within { addr + width ≤ length self.old.stores.writers }
         requires step { done < 2 ^ 32 }
+        requires found { (list : List Dependence) × F.keeps self.old.found list × AreNoNearer list self.old.nearest }
+        requires room { self.old.is_full ≡ false }
+        ensures epoch { self.new.epoch ≡ self.old.epoch }
+        ensures stores { self.new.stores ≡ self.old.stores }
+        ensures kept { self.new.is_full ≡ false → IsLoadKept F.keeps self.old self.new pc done addr width }
+    {
+        if self.is_done(pc, addr, width) {
+            return;
+        }
+        self.note_others(pc, done, addr, width);
+    }
+
+    /// Whether nothing more has to be noted of a load: it depends on no earlier epoch, or is counted now with others of its
+    /// instructions.
+    #[inline(always)]
+    fn is_done(&mut self, pc: u32, addr: u32, width: u32) -> bool
+        requires wide { IsWidth width }
+        requires aligned { addr % width ≡ 0 }
+        requires within { addr + width ≤ length self.old.stores.writers }
+        requires found { (list : List Dependence) × F.keeps self.old.found list × AreNoNearer list self.old.nearest }
+        requires room { self.old.is_full ≡ false }
+        ensures epoch { self.new.epoch ≡ self.old.epoch }
+        ensures stores { self.new.stores ≡ self.old.stores }
+        ensures kept { result ≡ true → (done : ℕ) → IsLoadKept F.keeps self.old self.new pc done addr width }
+        ensures same { result ≡ false → IsSame F.keeps self.old self.new }
+    {
+        let by = self.stores.kept_at(addr, width);
+        if by.is_before(self.epoch) {
+            let distance = self.epoch.note() - by.writer;
+            return self.found.counts(by.pc, pc, distance, addr);
+        }
+        !by.is_each()
+    }
+
+    /// The same, whatever its bytes were stored by. What is rarely asked for is worked out here, so that LLVM keeps it in no register
+    /// before.
+    #[inline(never)]
+    fn note_others(&mut self, pc: u32, done: u64, addr: u32, width: u32)
+        requires wide { IsWidth width }
+        requires aligned { addr % width ≡ 0 }
+        requires small { length self.old.stores.writers < 2 ^ 32 }
+        requires within { addr + width ≤ length self.old.stores.writers }
+        requires step { done < 2 ^ 32 }
         requires found { (list : List Dependence) × F.keeps self.old.found list }
         requires room { self.old.is_full ≡ false }
         ensures epoch { self.new.epoch ≡ self.old.epoch }
@@ -273,8 +328,8 @@ impl<F: Found> Flow<F> {
         ensures epoch { self.new.epoch ≡ self.old.epoch }
         ensures stores { self.new.stores ≡ self.old.stores }
         ensures nearest { self.new.nearest ≡ spec_kept.nearer self.old.nearest (Some (self.old.epoch + 1 - last.by.writer)) }
-        ensures later { (list : List Dependence) → IsNearestLater list self.old.nearest self.old.later
-            → IsNearestLater (list ++ dependence_by last self.old.epoch pc done ∷ []) self.new.nearest self.new.later }
+        ensures later { (list : List Dependence) → IsNearestOf list self.old.nearest self.old.later
+            → IsNearestOf (list ++ dependence_by last self.old.epoch pc done ∷ []) self.new.nearest self.new.later }
         ensures found { self.new.is_full ≡ false → (list : List Dependence) → F.keeps self.old.found list → F.keeps self.new.found (list ++ dependence_by last self.old.epoch pc done ∷ []) }
     {
         let one = last.dependence(self.epoch, pc, done as u32);

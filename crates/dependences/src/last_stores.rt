@@ -2,7 +2,7 @@
 ghost use Rattle.std.specs.Prelude.{◌≡◌, ℕ, ◌+◌, ◌%◌, ◌<◌, ◌≤◌, ◌^◌, IfOk, length, slice_index};
 ghost use Rattle.memory_bytes.specs.Bytes.{IsWidth};
 ghost use Rattle.dependences.specs.KeptStores as spec;
-ghost use Rattle.dependences.specs.KeptWords.{AreSpread, AreWords, IsBy, word_at};
+ghost use Rattle.dependences.specs.KeptWords.{AreSpread, AreWords, IsBy, word_at, word_of};
 ghost use Rattle.dependences.specs.KeptLast.{AreLast, IsLast, dependence_by};
 
 use crate::byte_stores::{ByteStores, NO_STORE, StoredBy};
@@ -71,6 +71,17 @@ impl LastStores {
             }
             word => word,
         }
+    }
+
+    /// As what the word of an aligned access is kept.
+    #[inline(always)]
+    pub(crate) fn kept_at(&self, addr: u32, _width: u32) -> StoredBy
+        requires wide { IsWidth _width }
+        requires aligned { addr % _width ≡ 0 }
+        requires within { addr + _width ≤ length self.now.writers }
+        ensures { AreLast self.now addr _width (word_of result) }
+    {
+        self.words.kept_at(addr / 4)
     }
 
     /// Of the bytes of a load whose last writer is an epoch before this one, the first of the latest such epoch.

@@ -1,4 +1,4 @@
-ghost use Rattle.std.specs.Prelude.{◌≡◌, ℕ, ◌<◌, ◌≤◌, IfOk, OnOk, Some, None, [], true, false, cond, length, min, max, slice_index_or};
+ghost use Rattle.std.specs.Prelude.{◌≡◌, ◌≢◌, ℕ, ◌<◌, ◌≤◌, IfOk, OnOk, Some, None, [], true, false, cond, length, min, max};
 ghost use Rattle.std.specs.Ordering.{is_eq};
 ghost use Rattle.std.specs.BTreeMap.{get};
 ghost use Rattle.dependences.specs.declared.pairs.PairSum.{PairSum};
@@ -47,7 +47,6 @@ impl PairSum {
     /// Counts one more.
     ///
     /// `NoMemory`: there was none for a higher count.
-    #[inline]
     fn count(&mut self, one: Dependence) -> Result<(), NoMemory>
         requires { one.earlier ≤ one.later }
         ensures { OnOk result (self.new ≡ spec.sum_more self.old one) }
@@ -62,6 +61,27 @@ impl PairSum {
         lower(&mut self.lowest, one.byte);
         raise(&mut self.highest, one.byte);
         Ok(())
+    }
+
+    /// Counts one more at this distance and by this byte, unless it is nearer than all before. Answers whether it does; else nothing
+    /// changes.
+    #[inline]
+    fn counts(&mut self, distance: u32, byte: u32) -> bool
+        ensures counted { result ≡ true → (one : Dependence) → spec.distance one ≡ distance → one.byte ≡ byte → self.new ≡ spec.sum_more self.old one }
+        ensures near { result ≡ true → self.old.least ≤ distance }
+        ensures same { result ≡ false → self.new ≡ self.old }
+    {
+        if distance < self.least {
+            return false;
+        }
+        let Some(times) = self.times.checked_add(1) else {
+            return false;
+        };
+        self.times = times;
+        raise(&mut self.most, distance);
+        lower(&mut self.lowest, byte);
+        raise(&mut self.highest, byte);
+        true
     }
 }
 
@@ -113,20 +133,43 @@ struct Ready {
 /// How many pairs are at hand at most.
 const SLOTS: usize = 256;
 
-/// Where the pair of a load at this pc is at hand, if it is.
+/// Where the pair of these two instructions is at hand, if it is. The store has a part in it, so that LLVM counts no second number
+/// beside the pc of each instruction.
 #[inline]
-fn slot_of(load: u32) -> usize
-    ensures slot { result ≡ kept.slot load }
+fn slot_of(store: u32, load: u32) -> usize
+    ensures slot { result ≡ kept.slot store load }
     ensures few { result < 256 }
 {
-    (load / 4) as usize % SLOTS
+    (load as usize + 2 * store as usize) / 4 % SLOTS
 }
 
-/// What dependences have in common by pairs of instructions, kept as the dependences come. The last pair of each of a few loads is at
-/// hand, since a load mostly depends on one store: its sum here is the pair's, and not that of the map.
+/// It stands where no pair is at hand: in any place but that of a store at pc 0 and a load at this pc.
+fn elsewhere(load: u32) -> Ready
+    ensures store { result.store ≡ 0 }
+    ensures load { result.load ≡ load }
+{
+    let first = Dependence {
+        earlier: 0,
+        stored: 0,
+        store_pc: 0,
+        later: 0,
+        loaded: 0,
+        load_pc: load,
+        byte: 0,
+    };
+    Ready {
+        store: 0,
+        load,
+        sum: PairSum::of(first),
+    }
+}
+
+/// What dependences have in common by pairs of instructions, kept as the dependences come. A few pairs are at hand, each in a place of
+/// its own: its sum there is the pair's, and not that of the map. A pair counts only in its place, so a place needs no mark that
+/// nothing is there.
 #[derive(Drop)]
 pub(crate) struct PairSums {
-    ready: Vec<Option<Ready>>,
+    ready: Vec<Ready>,
     sums: BTreeMap<(u32, u32), PairSum>,
 }
 
@@ -135,10 +178,18 @@ impl Found for PairSums {
 
     ghost keeps = { ArePairSums };
 
-    #[inline]
     fn add(&mut self, one: Dependence) -> Result<(), NoMemory> {
         self.keep(one)?;
         Ok(())
+    }
+
+    #[inline]
+    fn counts(&mut self, store_pc: u32, load_pc: u32, distance: u32, byte: u32) -> bool {
+        let ready = &mut self.ready[slot_of(store_pc, load_pc)];
+        if (ready.store != store_pc) | (ready.load != load_pc) {
+            return false;
+        }
+        ready.sum.counts(distance, byte)
     }
 }
 
@@ -147,7 +198,9 @@ impl PairSums {
     pub(crate) fn new(alloc: Global) -> Result<PairSums, NoMemory>
         ensures { IfOk result (λ s. kept.ArePairSums s []) }
     {
-        let ready = vec![in alloc; None; SLOTS]?;
+        // The place of a store and a load at pc 0 is the first.
+        let mut ready = vec![in alloc; elsewhere(0); SLOTS]?;
+        ready[0] = elsewhere(4);
         Ok(PairSums {
             ready,
             sums: BTreeMap::new(alloc),
@@ -155,62 +208,50 @@ impl PairSums {
     }
 
     /// Adds one to the sum of its pair.
-    #[inline]
     fn keep(&mut self, one: Dependence) -> Result<(), NoMemory>
-        requires home { kept.AreAtHome self.old.ready.items }
+        requires long { length self.old.ready.items ≡ 256 }
         requires order { one.earlier ≤ one.later }
-        ensures home { OnOk result (kept.AreAtHome self.new.ready.items) }
+        ensures long { OnOk result (length self.new.ready.items ≡ 256) }
         ensures added { OnOk result (kept.IsAdded self.old self.new one) }
     {
         if self.count_ready(one)? {
             return Ok(());
         }
-        // A copy, so that LLVM keeps the dependence in registers where its pair is at hand.
-        let kept = Dependence { ..one };
-        self.make_ready(kept)
+        self.make_ready(one)
     }
 
     /// Adds one to the sum of its pair, where this is at hand. Answers whether it is.
     ///
     /// `NoMemory`: there was none for a higher count.
-    #[inline]
     fn count_ready(&mut self, one: Dependence) -> Result<bool, NoMemory>
-        requires home { kept.AreAtHome self.old.ready.items }
+        requires long { length self.old.ready.items ≡ 256 }
         requires order { one.earlier ≤ one.later }
-        ensures home { OnOk result (kept.AreAtHome self.new.ready.items) }
+        ensures long { length self.new.ready.items ≡ 256 }
         ensures added { IfOk result (λ is_so. is_so ≡ true → kept.IsAdded self.old self.new one) }
         ensures same { IfOk result (λ is_so. is_so ≡ false → (self.new.ready.items ≡ self.old.ready.items) × (self.new.sums ≡ self.old.sums)) }
-        ensures none { IfOk result (λ is_so. is_so ≡ false → kept.at_hand (slice_index_or self.old.ready.items (kept.slot one.load_pc) None) one.store_pc one.load_pc ≡ None) }
+        ensures none { IfOk result (λ is_so. is_so ≡ false → kept.ready_sum self.old.ready.items one.store_pc one.load_pc ≡ None) }
     {
-        match &mut self.ready[slot_of(one.load_pc)] {
-            Some(ready) => {
-                if ready.store != one.store_pc {
-                    return Ok(false);
-                }
-                if ready.load != one.load_pc {
-                    return Ok(false);
-                }
-                ready.sum.count(one)?;
-                Ok(true)
-            }
-            None => Ok(false),
+        let ready = &mut self.ready[slot_of(one.store_pc, one.load_pc)];
+        if (ready.store != one.store_pc) | (ready.load != one.load_pc) {
+            return Ok(false);
         }
+        ready.sum.count(one)?;
+        Ok(true)
     }
 
     /// Takes the pair of a dependence to hand, in place of the one that was there, and adds the dependence to its sum.
-    #[inline(never)]
     fn make_ready(&mut self, one: Dependence) -> Result<(), NoMemory>
-        requires home { kept.AreAtHome self.old.ready.items }
+        requires long { length self.old.ready.items ≡ 256 }
         requires order { one.earlier ≤ one.later }
-        requires none { kept.at_hand (slice_index_or self.old.ready.items (kept.slot one.load_pc) None) one.store_pc one.load_pc ≡ None }
-        ensures home { OnOk result (kept.AreAtHome self.new.ready.items) }
+        requires none { kept.ready_sum self.old.ready.items one.store_pc one.load_pc ≡ None }
+        ensures long { OnOk result (length self.new.ready.items ≡ 256) }
         ensures added { OnOk result (kept.IsAdded self.old self.new one) }
     {
         let (store, load) = (one.store_pc, one.load_pc);
-        let slot = slot_of(load);
+        let slot = slot_of(store, load);
         let sum = self.sum_with(one)?;
         self.put_back(slot)?;
-        self.ready[slot] = Some(Ready { store, load, sum });
+        self.ready[slot] = Ready { store, load, sum };
         Ok(())
     }
 
@@ -231,24 +272,25 @@ impl PairSums {
         }
     }
 
-    /// Puts the sum of the pair that is at hand in this place into the map.
+    /// Puts the sum of the pair that is at hand in this place, if any, into the map.
     fn put_back(&mut self, slot: usize) -> Result<(), NoMemory>
         requires { slot < length self.old.ready.items }
         ensures ready { self.new.ready.items ≡ self.old.ready.items }
-        ensures sums { OnOk result ((store load : ℕ) → get spec.by_pcs self.new.sums (store, load)
-            ≡ kept.sum_or (kept.at_hand (slice_index_or self.old.ready.items slot None) store load) (get spec.by_pcs self.old.sums (store, load))) }
+        ensures here { OnOk result ((store load : ℕ) → kept.slot store load ≡ slot → get spec.by_pcs self.new.sums (store, load) ≡ kept.kept_sum self.old.ready.items self.old.sums store load) }
+        ensures others { OnOk result ((store load : ℕ) → kept.slot store load ≢ slot → get spec.by_pcs self.new.sums (store, load) ≡ get spec.by_pcs self.old.sums (store, load)) }
     {
-        match self.ready[slot] {
-            Some(ready) => put(&mut self.sums, (ready.store, ready.load), ready.sum),
-            None => Ok(()),
+        let ready = self.ready[slot];
+        if slot_of(ready.store, ready.load) != slot {
+            return Ok(());
         }
+        put(&mut self.sums, (ready.store, ready.load), ready.sum)
     }
 
     /// All sums, by the pcs of the store and of the load.
     ///
     /// `NoMemory`: there was none for those that were at hand.
     pub(crate) fn all(self) -> Result<BTreeMap<(u32, u32), PairSum>, NoMemory>
-        requires { kept.AreAtHome self.ready.items }
+        requires { length self.ready.items ≡ 256 }
         ensures { IfOk result (λ sums. (store load : ℕ) → get spec.by_pcs sums (store, load) ≡ kept.kept_sum self.ready.items self.sums store load) }
     {
         let mut all = self;

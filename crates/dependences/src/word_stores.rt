@@ -1,5 +1,5 @@
 //! The last store of each aligned word.
-ghost use Rattle.std.specs.Prelude.{◌≡◌, ℕ, ◌<◌, IfOk, length};
+ghost use Rattle.std.specs.Prelude.{◌≡◌, ◌==◌, ℕ, ◌<◌, IfOk, length};
 ghost use Rattle.dependences.specs.declared.word_stores.Word.TheVariants.{Untouched};
 ghost use Rattle.dependences.specs.KeptWords as spec;
 
@@ -27,6 +27,16 @@ pub(crate) enum Word {
 pub(crate) struct WordStores {
     words: Vec<StoredBy>,
     count: usize,
+}
+
+impl StoredBy {
+    /// Whether it stands for a store of its own of each byte of a word.
+    #[inline(always)]
+    pub(crate) fn is_each(self) -> bool
+        ensures { result ≡ (self.writer == 4294967295) }
+    {
+        self.writer == EACH.writer
+    }
 }
 
 /// It stands for a store of its own of each byte of a word.
@@ -88,15 +98,23 @@ impl WordStores {
         Ok(WordStores { words, count })
     }
 
+    /// As what a word is kept.
+    #[inline(always)]
+    pub(crate) fn kept_at(&self, word: u32) -> StoredBy
+        ensures { spec.word_of result ≡ spec.word_at self.now word }
+    {
+        match self.words.get(word as usize) {
+            Some(by) => *by,
+            None => NO_STORE,
+        }
+    }
+
     /// By what a word was stored last.
     #[inline(always)]
     pub(crate) fn at(&self, word: u32) -> Word
         ensures { result ≡ spec.word_at self.now word }
     {
-        match self.words.get(word as usize) {
-            Some(by) => word_of(*by),
-            None => Word::Untouched,
-        }
+        word_of(self.kept_at(word))
     }
 
     /// Notes by what a word was stored last.

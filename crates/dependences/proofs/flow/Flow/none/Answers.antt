@@ -22,6 +22,6 @@ returns g c =
         writer = λ a. subst (λ w. IsLastWriter image 0 a w) (sym (none a)) (λ d low stores. absurd (omega (arith, low)));
         least = λ k x. let before = x.before in absurd (omega (arith, before));
       };
-      later = tt;
+      later = record { later = tt; least = λ place one at. cc };
       room = refl;
     }

@@ -26,7 +26,7 @@ note_load-requires-clause-step g c =
     let done = c.requires.4.done_is in omega (arith, room, limits.limit_most, done)
 
 pub note_load-requires-clause-found : goal.note_load-requires-clause-found
-note_load-requires-clause-found g c = let kept = c.requires.5.kept c.if-self.false in (kept.found, kept.list)
+note_load-requires-clause-found g c = let kept = c.requires.5.kept c.if-self.false in (kept.found, kept.list, kept.later.least)
 
 pub returns-then-self-clause-right : goal.returns-then-self-clause-right
 returns-then-self-clause-right g c h memory signed rd next right =

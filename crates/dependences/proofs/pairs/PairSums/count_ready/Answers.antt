@@ -1,28 +1,18 @@
-use Rattle.std.proofs.Common.{◌≡◌, Some, None, ap, ◌∙◌, inl, inr}
-use Rattle.dependences.specs.declared.pairs.Ready.{Ready}
-use Rattle.dependences.proofs.Readying.{looked_at, not_ready}
+use Rattle.dependences.proofs.Readying.{counted, not_ready, stands}
 use Rattle.dependences.proofs.pairs.PairSums.count_ready.Goals as goal
-
-pub returns-then-ready-one-2-clause-none : goal.returns-then-ready-one-2-clause-none
-returns-then-ready-one-2-clause-none c none =
-    let x = c.args.one in
-    let ready = c.args.self.now.ready.items in
-    not_ready ready x (Some c.in-Some.ready)
-    (looked_at ready c.slot_of.result x.load_pc c.index_mut.result.now c.requires.home c.slot_of.ensures.slot c.slot_of.ensures.few c.index_mut.ensures.value ∙ c.in-Some.is)
-    (λ one is. inr (λ same. let e : c.in-Some.ready ≡ one = cc in c.if-ready-one-2.true (ap (λ (r : Ready). r.load) e ∙ same)))
 
 pub returns-then-ready-one-clause-none : goal.returns-then-ready-one-clause-none
 returns-then-ready-one-clause-none c none =
     let x = c.args.one in
     let ready = c.args.self.now.ready.items in
-    not_ready ready x (Some c.in-Some.ready)
-    (looked_at ready c.slot_of.result x.load_pc c.index_mut.result.now c.requires.home c.slot_of.ensures.slot c.slot_of.ensures.few c.index_mut.ensures.value ∙ c.in-Some.is)
-    (λ one is. inl (λ same. let e : c.in-Some.ready ≡ one = cc in c.if-ready-one.true (ap (λ (r : Ready). r.store) e ∙ same)))
+    let one = c.index_mut-ready.result.now in
+    not_ready ready c.slot_of.result x.store_pc x.load_pc one c.slot_of.ensures.slot
+    (stands ready c.slot_of.result one c.requires.long c.slot_of.ensures.few c.index_mut-ready.ensures.value) c.if-ready-one.true
 
-pub returns-in-None-clause-none : goal.returns-in-None-clause-none
-returns-in-None-clause-none c none =
+pub returns-clause-added : goal.returns-clause-added
+returns-clause-added c is_so store load =
     let x = c.args.one in
     let ready = c.args.self.now.ready.items in
-    not_ready ready x None
-    (looked_at ready c.slot_of.result x.load_pc c.index_mut.result.now c.requires.home c.slot_of.ensures.slot c.slot_of.ensures.few c.index_mut.ensures.value ∙ c.in-None.is)
-    (λ one is. cc)
+    let one = c.index_mut-ready.result.now in
+    counted ready c.args.self.now.sums x one c.slot_of.result c.count.new.self c.requires.long c.slot_of.ensures.slot
+    (stands ready c.slot_of.result one c.requires.long c.slot_of.ensures.few c.index_mut-ready.ensures.value) c.if-ready-one.false c.in_ok-count.ensures store load
