@@ -27,7 +27,7 @@ sys.path[:0] = [str(TOP / "tests/wrong-bodies"), str(TOP / "tools")]
 sys.dont_write_bytecode = True
 
 from checks import is_another  # noqa: E402
-from edits import Sources, batches_of, read_edit, searching_nothing  # noqa: E402
+from edits import Sources, batches_of, in_twin, read_edit, searching_nothing  # noqa: E402
 
 SOURCE = """\
 //! Numbers one after the other.
@@ -141,6 +141,7 @@ pub fn count_of(size: Size) -> u32
     ensures small { size ≡ Size.Small → result ≡ 1 }
     ensures large { size ≡ Size.Large → result ≡ 2 }
 {
+    // by its name
     match size {
         Size::Small => 1,
         Size::Large => 2,
@@ -343,6 +344,9 @@ HEADS = [
     ("#[tactic(auto, unfolding(specs::A::a,\n    specs::B::b))]\npub(crate) fn one() {",
      "#[tactic(none)]\n\npub(crate) fn one() {"),
 ]
+
+# What is left of a body with one wrong arm in a twin: neither the other arms nor remarks.
+ONE_ARM = ["    match size {", "        Size::Large => 3,", "        _ => count_of(size),", "    }", "}"]
 
 # The edits that change more than bodies and further imports.
 OF_CONTRACTS = {"next_breaks_another_function", "four_after_promises_five", "count_of_promises_less_by_the_same_import",
@@ -611,6 +615,9 @@ def together(folder: Path) -> Iterator[Check]:
             edits.append(read_edit(name, edit_text(pairs), sources))
     tried = list(batches_of(edits, sources))
     yield "the edits in lists", differs([len(it) for it in tried], [len(edits)])
+    (one_arm,) = (in_twin(it, sources, 1) for it in edits if it.name == "count_of_large_is_three")
+    yield "a twin of one arm", differs(
+        one_arm and one_arm.twin and one_arm.twin.text.split("\n")[-len(ONE_ARM):], ONE_ARM)
     yield "edits of contracts, each in a twin", differs(
         {it.name for batch in tried for it in batch if it.twin and not it.in_bodies}, OF_CONTRACTS)
 

@@ -16,6 +16,7 @@ WITHOUT_ANSWERS = "without answers"
 BY_ANSWERS = "by answers"
 CONSTANT = re.compile(r" *(?:pub(?:\([a-z ]+\))? )?const fn ")
 TACTIC = re.compile(r"#\[tactic\([^\[\]]*\)\]")
+REMARK = re.compile(r" *//")
 ARM = re.compile(r" *\w+::(\w+)(?: \{[^{}]*\})? => .*")
 
 
@@ -256,7 +257,8 @@ def renamed(text: str, twin: str, of: str) -> str:
 def one_arm(function: Function, head: str, right: Sequence[str], wrong: Sequence[str]) -> list[str] | None:
     """The lines of a body that is wrong in one arm of the match that it is, that of a variant: this arm alone, and a
     call of the function for any other value, since what it promises there is what its twin has to. None of any other
-    body."""
+    body. Remarks count for nothing."""
+    right, wrong = ([it for it in lines if not REMARK.match(it)] for lines in (right, wrong))
     called = re.search(rf"(?m)^(?:pub(?:\(crate\))? )?fn {function.name}\(([^()]*)\)", head)
     arms = [it for it in wrong if re.match(r" {8}[^ }]", it)]
     variants = [it[1] for it in map(ARM.match, arms) if it]
