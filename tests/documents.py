@@ -28,8 +28,6 @@ MOST_WORDS_OF_SENTENCE = 40
 # So many words in a row are a run; and so many runs may stand on more than one page.
 RUN = 9
 MOST_SHARED_RUNS = 100
-# Crates whose functions nobody outside uses: tests.
-WITHOUT_CONTRACTS = {"machine_tests"}
 NAME = r"[^\s(){}.,;λ]+"
 # A definition: crate, file below specs/ and name
 Name = tuple[str, str, str]
@@ -117,7 +115,7 @@ def cited() -> list[Name]:
     found = set()
     for source in sorted((ROOT / "crates").glob("*/src/**/*.rt")):
         crate = source.relative_to(ROOT / "crates").parts[0]
-        if crate in WITHOUT_CONTRACTS or source.stem == "tests" or "tests" in source.parts:
+        if source.stem == "tests" or "tests" in source.parts:
             continue
         text = source.read_text()
         names, modules = imports(text)

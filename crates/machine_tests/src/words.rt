@@ -1,6 +1,7 @@
-//! The words of a row: cells between bars, numbers, and images whose lines stand between semicolons.
+//! The words of a row: cells between bars, numbers, and the entries of a history.
 
-use rv32_exec::{Image, image_of};
+use rv32_exec::End;
+use spec_history::{Entry, What};
 use std::alloc::Global;
 use std::test::Fail;
 
@@ -19,14 +20,9 @@ pub fn word<'a>(text: &'a str, place: usize) -> &'a str {
     text.split_whitespace().nth(place).unwrap_or("")
 }
 
-/// The number in a cell of a row. None: it has none.
-pub fn number_in(row: &str, place: usize) -> Option<u32> {
-    cell(row, place).parse().ok()
-}
-
-/// The same. Where there is none, one that no row has.
-pub fn number(row: &str, place: usize) -> u32 {
-    number_in(row, place).unwrap_or(u32::MAX)
+/// The number at a place of a text. Where there is none, one that no row has.
+pub fn number(text: &str, place: usize) -> u32 {
+    word(text, place).parse().ok().unwrap_or(u32::MAX)
 }
 
 /// The number at a place of a text, in hexadecimal. None: there is none.
@@ -34,18 +30,76 @@ pub fn hex(text: &str, place: usize) -> Option<u32> {
     u32::from_str_radix(word(text, place), 16).ok()
 }
 
-/// The image whose lines stand between semicolons.
-pub fn image_in(alloc: Global, lines: &str) -> Result<Image, Fail> {
-    let mut text = String::new(alloc);
-    for line in lines.split(';') {
-        text.push_str(line.trim())?;
-        text.push_str("\n")?;
+/// How the loop has ended, as the words from this place on say: `done`, `exit` or `fault` with its numbers, or another word where it
+/// isn't over.
+pub fn end_of(text: &str, place: usize) -> Option<End> {
+    let first = number(text, place.saturating_add(1));
+    let second = number(text, place.saturating_add(2));
+    let third = number(text, place.saturating_add(3));
+    let fault = End::Fault {
+        epoch: first,
+        cause: second,
+        pc: third,
+    };
+    for (name, end) in [
+        ("done", End::Done(first)),
+        ("exit", End::Exit(first)),
+        ("fault", fault),
+    ] {
+        if name == word(text, place) {
+            return Some(end);
+        }
     }
-    Ok(image_of(alloc, text.as_bytes())?)
+    None
 }
 
-/// The image of a loop of 16 epochs with this code.
-pub fn image_with(alloc: Global, code: &str) -> Result<Image, Fail> {
-    let text = format!(in alloc; "size 256\nepochs 16\nlimit 100\ncode {code}\n")?;
-    Ok(image_of(alloc, text.as_bytes())?)
+/// The entries of a history.
+pub fn entries_of(alloc: Global, text: &str) -> Result<Vec<Entry>, Fail> {
+    let mut entries = Vec::new(alloc);
+    for words in text.split(';') {
+        if !words.trim().is_empty() {
+            entries.push(entry_of(words).ok_or("no entry")?)?;
+        }
+    }
+    Ok(entries)
+}
+
+/// The entry that these words say: a core, what it did, and numbers.
+pub fn entry_of(words: &str) -> Option<Entry> {
+    let by = number(words, 0);
+    for (name, what) in entries_with(number(words, 2), number(words, 3), number(words, 4)) {
+        if name == word(words, 1) {
+            return Some(Entry { by, what });
+        }
+    }
+    None
+}
+
+/// What an entry says by each word, with these numbers.
+fn entries_with(first: u32, second: u32, third: u32) -> [(&'static str, What); 9] {
+    let load = What::Load {
+        addr: first,
+        width: second,
+        value: third,
+    };
+    let store = What::Store {
+        addr: first,
+        width: second,
+        value: third,
+    };
+    let fault = What::Fault {
+        cause: first,
+        pc: second,
+    };
+    [
+        ("start", What::Start(first)),
+        ("load", load),
+        ("store", store),
+        ("hurt", What::Hurt(first)),
+        ("cancel", What::Cancel(first)),
+        ("restart", What::Restart),
+        ("publish", What::Publish),
+        ("commit", What::Commit),
+        ("fault", fault),
+    ]
 }

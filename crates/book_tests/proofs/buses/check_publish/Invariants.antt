@@ -1,9 +1,0 @@
-use Rattle.std.proofs.Common.{◌≡◌, ◌≤◌, ◌<◌, ℕ, Some}
-use Rattle.violations.specs.declared.attempt.Attempt.{Attempt}
-use Rattle.spec_bus.specs.Cached.{store_view}
-use Rattle.book_tests.proofs.buses.check_publish.Given as goal
-
-abbrev pub invariant-loop-k : goal.invariant-loop-k
-invariant-loop-k g l = record {
-  first : (j : ℕ) (x : Attempt) → j < l.k → (store_view l.bus).attempt j ≡ Some x → l.epoch ≤ x.epoch;
-}

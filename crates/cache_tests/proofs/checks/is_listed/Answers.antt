@@ -1,8 +1,0 @@
-use Rattle.std.proofs.Common.{◌∙◌, ap}
-use Rattle.orb.specs.Lines.{Buffer, holds}
-use Rattle.cache_tests.proofs.checks.is_listed.Goals as goal
-
-pub returns : goal.returns
-returns c =
-    c.holds.ensures ∙ ap (λ (buffer : Buffer). holds buffer.lines c.args.line) c.orb_at.ensures
-    ∙ (c.look.ensures.coherent.cores c.args.core).listed c.args.line

@@ -1,7 +1,0 @@
-use Rattle.std.proofs.Common.{ℕ, ◌<◌}
-use Rattle.spec_bus.specs.Cached.{store_view}
-use Rattle.cache_tests.specs.Checked.{IsApart}
-use Rattle.cache_tests.proofs.checks.may_begin.Given as goal
-
-abbrev pub invariant-loop-k : goal.invariant-loop-k
-invariant-loop-k l = (j : ℕ) → j < l.k → IsApart (store_view l.bus) l.epoch j

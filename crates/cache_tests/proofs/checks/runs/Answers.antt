@@ -1,7 +1,0 @@
-use Rattle.std.proofs.Common.{sym}
-use Rattle.spec_bus.specs.Cached.{store_view}
-use Rattle.cache_tests.proofs.Checking.{runs_is, same_bool}
-use Rattle.cache_tests.proofs.checks.runs.Goals as goal
-
-pub returns : goal.returns
-returns c = runs_is (store_view c.args.bus.now) c.args.core c.in-Some.attempt c.args.straight (sym c.in-Some.ensures) (same_bool c.in-Some.attempt.straight c.args.straight c.if-attempt-straight.false)

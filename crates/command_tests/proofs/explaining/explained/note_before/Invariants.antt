@@ -1,0 +1,6 @@
+use Rattle.conflict_findings.specs.Followed.{IsFollowed}
+use Rattle.command_tests.proofs.explaining.explained.note_before.Given as goal
+
+-- what is kept is right
+abbrev pub invariant-loop : goal.invariant-loop
+invariant-loop l = IsFollowed l.entries l.followed

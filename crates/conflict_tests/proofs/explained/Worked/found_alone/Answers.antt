@@ -1,4 +1,0 @@
-use Rattle.conflict_tests.proofs.explained.Worked.found_alone.Goals as goal
-
-pub found_over-requires : goal.found_over-requires
-found_over-requires c = (c.new.ensures _).is

@@ -1,0 +1,7 @@
+use Rattle.std.proofs.Common.{ℕ, ◌<◌}
+use Rattle.spec_bus.specs.Cached.{store_view}
+use Rattle.machine_tests.specs.Checked.{IsApart}
+use Rattle.machine_tests.proofs.caches.checks.may_begin.Given as goal
+
+abbrev pub invariant-loop-k : goal.invariant-loop-k
+invariant-loop-k l = (j : ℕ) → j < l.k → IsApart (store_view l.bus) l.epoch j
