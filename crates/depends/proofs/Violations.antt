@@ -6,7 +6,7 @@ use Rattle.spec_history.specs.Conflict.{entry_is, is_hurt, passes}
 use Rattle.dependences.proofs.Histories.{there_below}
 use Rattle.conflicts.specs.declared.explanation.Explanation.{Explanation}
 use Rattle.conflicts.specs.Explained.{places_of, violations_before}
-use Rattle.shown_conflicts.specs.Violation.{HasViolation}
+use Rattle.never_or_shown.specs.Violation.{HasViolation}
 use Rattle.depends.specs.Shown.{IsFirst}
 
 no_end : (xs : List ℕ) (n : ℕ) → xs ++ n ∷ [] ≡ [] → ⊥

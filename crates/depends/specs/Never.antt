@@ -1,11 +1,11 @@
 -- Whether schedules of so many cores can violate an epoch.
--- Source: the laws of `dependences` and `shared_lines`.
+-- Source: the laws of `dependences` and `never_or_shown`.
 use Rattle.std.specs.Prelude.{◌≡◌, ◌⊎◌, ℕ, ◌<◌, ◌≤◌, Option, Some, None}
 use Rattle.rv32_image.specs.Image.{LoadedImage}
 use Rattle.dependences.specs.Conflict.{ConflictInOrder, LineConflictInOrder, Overflow}
 use Rattle.dependences.specs.Shared.{SharedOverflowInOrder}
 use Rattle.dependences.specs.Laws.{NeverOverBytes, NeverOverLines}
-use Rattle.shared_lines.specs.NeverOverBus.{NeverOverBus}
+use Rattle.never_or_shown.specs.NeverOverBus.{NeverOverBus}
 use Rattle.depends.specs.declared.least.Found.{Found}
 use Rattle.depends.specs.declared.least.Grain.{Grain}
 use Rattle.depends.specs.declared.least.Grain.TheVariants.{Lines, Bytes}

@@ -1,5 +1,5 @@
 -- What is told of the plain store: a conflict is shown, unless a history is full.
--- Source: this project; the law is that of `shown_conflicts`.
+-- Source: this project; the law is that of `never_or_shown`.
 use Rattle.std.specs.Prelude.{◌≡◌, ℕ, ◌+◌, ◌<◌, List, length, Option, Some, Ok}
 use Rattle.rv32_image.specs.Image.{LoadedImage}
 use Rattle.rv32_image.specs.Version.{limits_of}

@@ -5,7 +5,7 @@ use Rattle.rv32_image.specs.Image.{LoadedImage}
 use Rattle.dependences.specs.Lengths.{AreLengths}
 use Rattle.dependences.specs.Nearest.{IsLaterAt, IsNearest}
 use Rattle.dependences.specs.Summed.{AreSums}
-use Rattle.shown_conflicts.specs.Ran.{IsRun}
+use Rattle.never_or_shown.specs.Ran.{IsRun}
 use Rattle.trace_commands.specs.declared.store.Store.{Store}
 use Rattle.trace_commands.specs.declared.store.Store.TheVariants.{Caches, Plain}
 use Rattle.depends.specs.declared.least.Grain.TheVariants.{Lines}

@@ -8,8 +8,8 @@ ghost use Rattle.depends.specs.Never as spec;
 use dependences::{
     CacheConflict, conflict_over_caches, conflicts_over_bytes, least_conflict_over_bytes,
 };
+use never_or_shown::laws::without_line_conflict_and_shared_overflow_never_over_bus;
 use rv32_exec::Image;
-use shared_lines::laws::without_line_conflict_and_shared_overflow_never_over_bus;
 use std::alloc::{AllocError, Global};
 
 /// What a store watches for conflicts: the lines of the caches on a bus and their buffers, or bytes.

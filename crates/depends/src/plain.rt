@@ -3,8 +3,8 @@ ghost use Rattle.std.specs.Prelude.{◌≡◌, IfOk};
 ghost use Rattle.homefree.specs.LockView.{loop_of};
 ghost use Rattle.all_schedules.specs.Made.{the_loop};
 ghost use Rattle.dependences.specs.Conflict.{ConflictInOrder};
-ghost use Rattle.shown_conflicts.specs.Violation.{HasViolation};
-ghost use Rattle.shown_conflicts.specs.Ran.{IsRun};
+ghost use Rattle.never_or_shown.specs.Violation.{HasViolation};
+ghost use Rattle.never_or_shown.specs.Ran.{IsRun};
 ghost use Rattle.depends.specs.Plain as spec;
 
 use crate::least::least_over_bytes;
@@ -12,7 +12,7 @@ use crate::line::Line;
 use crate::shown::{first_of, history_of};
 use all_schedules::{LoopOn, trace_is_made_again, turns_of};
 use homefree::Book;
-use shown_conflicts::{Ahead, InOrder, show_conflict};
+use never_or_shown::{Ahead, InOrder, show_conflict};
 use std::alloc::{AllocError, Global};
 use violations::PlainStore;
 

@@ -3,9 +3,9 @@ ghost use Rattle.std.specs.Prelude.{◌≡◌, true, IfOk, None};
 ghost use Rattle.depends.specs.Ran as spec;
 
 use dependences::{CacheConflict, RunInOrder, shown_in_order, shown_over_caches};
+use never_or_shown::InOrder;
+use never_or_shown::laws::without_line_conflict_and_shared_overflow_never_over_bus;
 use rv32_exec::Image;
-use shared_lines::laws::without_line_conflict_and_shared_overflow_never_over_bus;
-use shown_conflicts::InOrder;
 use std::alloc::{AllocError, Global};
 use std::convert::AsStr;
 use trace_commands::{Store, store_named};

@@ -2,7 +2,7 @@
 ghost use Rattle.std.specs.Prelude.{◌≡◌, ◌<◌, All, IfOk, IfSome, IsSome};
 ghost use Rattle.all_schedules.specs.Made.{the_loop};
 ghost use Rattle.conflicts.specs.Explained.{IsExplained};
-ghost use Rattle.shown_conflicts.specs.Violation.{HasViolation};
+ghost use Rattle.never_or_shown.specs.Violation.{HasViolation};
 ghost use Rattle.depends.specs.Shown as spec;
 
 use all_schedules::{LoopOn, drive_schedule};

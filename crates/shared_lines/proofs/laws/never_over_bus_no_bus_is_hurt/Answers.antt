@@ -1,5 +1,0 @@
-use Rattle.std.proofs.Common.{refl}
-use Rattle.shared_lines.proofs.laws.never_over_bus_no_bus_is_hurt.Goals as goal
-
-pub returns : goal.returns
-returns c = λ never. never c.args.book.now refl refl c.look.ensures c.look_back.ensures

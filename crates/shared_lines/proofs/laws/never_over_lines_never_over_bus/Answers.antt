@@ -1,5 +1,0 @@
-use Rattle.shared_lines.proofs.Nevers.{never_known}
-use Rattle.shared_lines.proofs.laws.never_over_lines_never_over_bus.Goals as goal
-
-pub returns : goal.returns
-returns c image cores never = never_known image cores never

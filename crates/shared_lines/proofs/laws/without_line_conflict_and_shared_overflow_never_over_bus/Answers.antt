@@ -1,5 +1,0 @@
-use Rattle.shared_lines.proofs.Nevers.{never_shared}
-use Rattle.shared_lines.proofs.laws.without_line_conflict_and_shared_overflow_never_over_bus.Goals as goal
-
-pub returns : goal.returns
-returns c image cores free room = never_shared image cores free room
