@@ -28,8 +28,8 @@ pub struct Found {
     pub later: Option<u32>,
 }
 
-/// Two epochs that conflict over bytes on the fewest cores, up to these, which are at most 16. None: on none of them any do, and no
-/// schedule has a violation. So many epochs run in order, and the nearest that depend on each other over bytes are so far apart.
+/// Two epochs that conflict over bytes on the fewest cores, up to these. None: on none of them any do, and no schedule has a violation. So
+/// many epochs run in order, and the nearest that depend on each other over bytes are so far apart.
 ///
 /// `AllocError`: memory ran out.
 pub fn least_over_bytes(
@@ -39,7 +39,6 @@ pub fn least_over_bytes(
     ran: u32,
     nearest: Option<u32>,
 ) -> Result<Option<Found>, AllocError>
-    requires few { cores ≤ 16 }
     requires all { AreAll image.now ran }
     requires nearest { IsNearest image.now nearest }
     ensures { IfOk result (spec.IsLeast image.now Grain.Bytes cores) }
@@ -75,8 +74,7 @@ pub fn least_by_halves(
     cores: u32,
     guess: u32,
 ) -> Result<Option<Found>, AllocError>
-    requires few { cores ≤ 16 }
-    requires guess { guess ≤ cores }
+    requires { guess ≤ cores }
     ensures { IfOk result (spec.IsLeast image.now grain cores) }
 {
     let Some((found, below)) = conflict_from(alloc, image, grain, cores, guess)? else {
@@ -85,7 +83,7 @@ pub fn least_by_halves(
     let mut least = found;
     let mut low = below;
     'halves: while low < least.cores {
-        let middle = (low + least.cores) / 2;
+        let middle = low + (least.cores - low) / 2;
         match conflict_on(alloc, image, grain, middle)? {
             Some(found) => least = found,
             None => low = middle + 1,
@@ -104,8 +102,7 @@ fn conflict_from(
     cores: u32,
     guess: u32,
 ) -> Result<Option<(Found, u32)>, AllocError>
-    requires few { cores ≤ 16 }
-    requires guess { guess ≤ cores }
+    requires { guess ≤ cores }
     ensures found { IfOk result (λ it. IfSome it (λ found. spec.IsBetween image.now grain cores found.0 found.1)) }
     ensures none { IfOk result (λ it. IfNone it (spec.NeverRollsBack image.now grain cores)) }
 {
