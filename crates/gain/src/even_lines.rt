@@ -150,22 +150,12 @@ fn costs_at(study: &Study, each: u32) -> Costs
     requires { each ≤ 60 }
     ensures { result ≡ spec.costs_at study.now each }
 {
-    let bus = Costs::bus(cost_of(each));
+    let bus = Costs::bus(Cost::new(each).unwrap());
     match study.costs {
         Some(costs) => Costs {
             hold: costs.hold,
             ..bus
         },
         None => bus,
-    }
-}
-
-fn cost_of(each: u32) -> Cost
-    requires { each ≤ 60 }
-    ensures { result ≡ each }
-{
-    match Cost::new(each) {
-        Some(cost) => cost,
-        None => unreachable!(),
     }
 }
