@@ -13,6 +13,7 @@ pub mod Keeping
 pub mod InOrder
 pub mod Showing
 pub mod Fewer
+pub mod Early
 -- Whole histories: what caused a violation, and what it met.
 pub mod Histories
 pub mod Causes

@@ -106,7 +106,7 @@ impl ByteStores {
 }
 
 /// How many stores are made at a time, at least.
-const STEP: usize = 4096;
+const STEP: usize = 512;
 
 /// Makes stores up to this byte, of so many for which there is room.
 #[inline(always)]

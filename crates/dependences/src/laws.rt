@@ -1,6 +1,6 @@
 //! What no schedule can roll back: each function does nothing, and its contract is the law.
 
-ghost use Rattle.std.specs.Prelude.{◌≡◌, ℕ, ◌<◌, ◌≤◌, false, List, Option, Some};
+ghost use Rattle.std.specs.Prelude.{◌≡◌, ℕ, ◌+◌, ◌<◌, ◌≤◌, false, List, Option, Some};
 ghost use Rattle.rv32_image.specs.Image.{LoadedImage, IsImage};
 ghost use Rattle.spec_history.specs.declared.entry.Entry.{Entry};
 ghost use Rattle.spec_history.specs.FlatState.{FlatState};
@@ -40,6 +40,11 @@ pub fn fewer_cores_conflict_no_more()
     ensures lines { (image : LoadedImage) (fewer more : ℕ) → IsImage image → fewer ≤ more → (LineConflict image more → ⊥) → LineConflict image fewer → ⊥ }
     ensures buffers { (image : LoadedImage) (fewer more : ℕ) → IsImage image → fewer ≤ more → (Conflict image more → ⊥) → (Overflow image more → ⊥) → Overflow image fewer → ⊥ }
     ensures shared { (image : LoadedImage) (fewer more : ℕ) → IsImage image → fewer ≤ more → (Conflict image more → ⊥) → (SharedOverflow image more → ⊥) → SharedOverflow image fewer → ⊥ }
+{}
+
+/// Two epochs that conflict over lines, where the cores run the later one beside all before it, do so on just as many cores as that takes.
+pub fn early_epochs_conflict_on_few_cores()
+    ensures { (image : LoadedImage) (cores : ℕ) → (conflict : LineConflictInOrder image cores) → conflict.later < cores → LineConflictInOrder image (conflict.later + 1) }
 {}
 
 /// A buffer that is too small for what is shared is too small for all that is stored, which is the coarser.

@@ -61,7 +61,7 @@ impl Marks {
 }
 
 /// How many numbers are made at a time, at least.
-const STEP: usize = 4096;
+const STEP: usize = 512;
 
 /// Makes numbers up to this place, of so many for which there is room.
 #[inline(always)]
