@@ -1,8 +1,9 @@
 //! Schedules in which a later epoch runs ahead of those before it.
-ghost use Rattle.std.specs.Prelude.{◌≡◌, ◌≤◌, ◌<◌, All, IfOk, IfSome};
+ghost use Rattle.std.specs.Prelude.{◌≡◌, ◌≤◌, ◌<◌, IfOk, IfSome};
 ghost use Rattle.homefree.specs.BookView.{IsOfSameLoop};
 ghost use Rattle.homefree.specs.Counted.{IsNoMore};
-ghost use Rattle.homefree.specs.Held.{HaveArrived};
+ghost use Rattle.homefree.specs.LockView.{loop_of};
+ghost use Rattle.all_schedules.specs.Made.{the_loop};
 ghost use Rattle.depends.specs.Ahead as spec;
 
 use all_schedules::LoopOn;
@@ -16,17 +17,17 @@ use violations::{EpochStore, MAX_CORES};
 /// The most turns of a schedule: no more than `replay` takes in lines of turns, which have at most 3 bytes for each.
 const MOST_TURNS: u32 = 8_388_608;
 
-/// A schedule up to its first violation, if it comes to one. The epochs before the window of this one commit in order, on core 0. Then
-/// the epochs of the window start, one on each core; the last one runs as far as it comes, and then each one before it; at last they
-/// commit in order.
+/// The book of turns up to their first violation, if they come to one. The epochs before the window of this one commit in order, on core
+/// 0. Then the epochs of the window start, one on each core; the last one runs as far as it comes, and then each one before it; at last
+/// they commit in order.
 ///
 /// `AllocError`: memory ran out.
 pub fn run_ahead<S: EpochStore>(
     alloc: Global,
     on: &LoopOn<'_>,
     later: u32,
-) -> Result<Vec<u32>, AllocError>
-    ensures { IfOk result (λ schedule. All (λ core. core < on.now.cores) schedule.items) }
+) -> Result<Book<S>, AllocError>
+    ensures { IfOk result (λ book. loop_of book ≡ the_loop on.now) }
 {
     let cores = on.cores;
     let room = on.room.entries();
@@ -34,34 +35,25 @@ pub fn run_ahead<S: EpochStore>(
     let Ok((mut book, mut shares)) = made else {
         return Err(AllocError);
     };
-    let mut schedule = Vec::new(alloc);
-    let plan = Plan::of(cores, later);
-    match take_turns(&mut book, &mut shares, cores, plan, &mut schedule) {
-        Ok(()) | Err(TurnFault::HistoryFull) => Ok(schedule),
+    match take_turns(&mut book, &mut shares, Plan::of(cores, later)) {
+        Ok(()) | Err(TurnFault::HistoryFull) => Ok(book),
         Err(TurnFault::NoMemory) => Err(AllocError),
     }
 }
 
-/// Takes the turns of a plan, and notes whose they are.
+/// Takes the turns of a plan.
 fn take_turns<S: EpochStore>(
     book: &mut Book<S>,
     shares: &mut Shares,
-    cores: u32,
     plan: Plan,
-    schedule: &mut Vec<u32>,
 ) -> Result<(), TurnFault>
-    requires cores { book.old.cores ≡ cores }
     requires shares { IsNoMore shares.old book.old.totals }
-    requires plan { spec.IsPlan cores plan }
-    requires schedule { All (λ core. core < cores) schedule.old.items }
-    ensures { All (λ core. core < cores) schedule.new.items }
+    requires plan { spec.IsPlan book.old.cores plan }
+    ensures { IsOfSameLoop book.old book.new }
 {
     let mut held = [None; MAX_CORES];
     let mut plan = plan;
     for _taken in 0..MOST_TURNS {
-        let Ok(()) = schedule.push(plan.core) else {
-            return Err(TurnFault::NoMemory);
-        };
         let before = book.history().len();
         let answer = step(book, &mut held, plan.core, shares)?;
         if has_violation(book.history(), before) {

@@ -1,10 +1,12 @@
 //! From how many cores on epochs conflict.
-ghost use Rattle.std.specs.Prelude.{◌≡◌, ◌≤◌, IfNone, IfOk, IfSome};
+ghost use Rattle.std.specs.Prelude.{◌≡◌, ◌≤◌, IfNone, IfOk, IfSome, Some};
 ghost use Rattle.rv32_image.specs.Image.{IsImage};
 ghost use Rattle.dependences.specs.Kept.{AreAll};
+ghost use Rattle.dependences.specs.KeptTouches.{IsFound};
 ghost use Rattle.dependences.specs.Nearest.{IsNearest};
 ghost use Rattle.depends.specs.Never as spec;
 
+use dependences::laws::early_epochs_conflict_on_few_cores;
 use dependences::{
     CacheConflict, conflict_over_caches, conflicts_over_bytes, least_conflict_over_bytes,
 };
@@ -46,7 +48,7 @@ pub fn least_over_bytes(
     if ran == image.epochs() {
         Ok(least_near(image, cores, nearest))
     } else {
-        least_by_halves(alloc, image, Grain::Bytes, cores, cores)
+        least_by_halves(alloc, image, Grain::Bytes, cores, cores, None)
     }
 }
 
@@ -63,8 +65,24 @@ fn least_near(image: &Image, cores: u32, nearest: Option<u32>) -> Option<Found>
     }
 }
 
+/// Two epochs that conflict over lines on fewer cores, where this conflict is shown on these: on as many as run all epochs up to the
+/// later one at a time. None: those are more, or the conflict is of a buffer.
+pub fn known_by(_image: &Image, conflict: CacheConflict, cores: u32) -> Option<Found>
+    requires { IsFound _image.now cores (Some conflict) }
+    ensures { IfSome result (λ found. spec.Conflicts _image.now Grain.Lines found.cores) }
+{
+    early_epochs_conflict_on_few_cores();
+    match conflict {
+        CacheConflict::Line { later } if later < cores => Some(Found {
+            cores: later + 1,
+            later: Some(later),
+        }),
+        _ => None,
+    }
+}
+
 /// Two epochs that conflict over a store of this grain on the fewest cores, by a search on more and fewer cores. It begins with this
-/// guess.
+/// guess, or with what is known on fewer.
 ///
 /// `AllocError`: memory ran out.
 pub fn least_by_halves(
@@ -73,11 +91,13 @@ pub fn least_by_halves(
     grain: Grain,
     cores: u32,
     guess: u32,
+    known: Option<Found>,
 ) -> Result<Option<Found>, AllocError>
-    requires { guess ≤ cores }
+    requires guess { guess ≤ cores }
+    requires known { IfSome known (λ found. spec.Conflicts image.now grain found.cores) }
     ensures { IfOk result (spec.IsLeast image.now grain cores) }
 {
-    let Some((found, below)) = conflict_from(alloc, image, grain, cores, guess)? else {
+    let Some((found, below)) = conflict_from(alloc, image, grain, cores, guess, known)? else {
         return Ok(None);
     };
     let mut least = found;
@@ -92,7 +112,8 @@ pub fn least_by_halves(
     Ok(Some(least))
 }
 
-/// Two epochs that conflict on some cores, and a number of cores below which none do. On the guess it looks first.
+/// Two epochs that conflict on some cores, and a number of cores below which none do. On the guess it looks first, unless those that
+/// are known conflict on no more.
 ///
 /// `AllocError`: memory ran out.
 fn conflict_from(
@@ -101,12 +122,18 @@ fn conflict_from(
     grain: Grain,
     cores: u32,
     guess: u32,
+    known: Option<Found>,
 ) -> Result<Option<(Found, u32)>, AllocError>
-    requires { guess ≤ cores }
+    requires guess { guess ≤ cores }
+    requires known { IfSome known (λ found. spec.Conflicts image.now grain found.cores) }
     ensures found { IfOk result (λ it. IfSome it (λ found. spec.IsBetween image.now grain cores found.0 found.1)) }
     ensures none { IfOk result (λ it. IfNone it (spec.NeverRollsBack image.now grain cores)) }
 {
-    if let Some(found) = conflict_on(alloc, image, grain, guess)? {
+    let first = match known {
+        Some(found) if found.cores <= guess => known,
+        _ => conflict_on(alloc, image, grain, guess)?,
+    };
+    if let Some(found) = first {
         return Ok(Some((found, 0)));
     }
     if guess == cores {

@@ -1,14 +1,17 @@
 //! The line of a store: whether a schedule of so many cores can violate an epoch over it.
 ghost use Rattle.std.specs.Prelude.{◌≡◌, ◌≤◌, ◌++◌, IfOk, OnOk};
 ghost use Rattle.depends.specs.Line as spec;
+ghost use Rattle.depends.specs.Ran.{IsOver};
 ghost use Rattle.spec_bus.specs.Cached as caches;
 ghost use Rattle.spec_bus.specs.Laws as cache;
 
 use crate::ahead::run_ahead;
-use crate::least::{Grain, least_by_halves};
+use crate::least::{Grain, known_by, least_by_halves};
+use crate::ran::{OverCaches, Seen};
 use crate::shown::{Met, Shown, show};
 use crate::text::{push_address, push_named, push_word};
 use all_schedules::LoopOn;
+use homefree::Book;
 use replay_command::push_turns;
 use spec_bus::CachedBus;
 use std::alloc::{AllocError, Global};
@@ -30,20 +33,22 @@ pub enum Line {
     },
 }
 
-/// What is told of the caches on a bus, and up to so many cores. The nearest epochs that depend on each other over bytes are so far
-/// apart: on as many cores as let them run beside each other it looks first.
+/// What is told of the caches on a bus, and up to so many cores. It looks first on as many cores as let those epochs run beside each
+/// other that depend on each other over bytes and are nearest.
 ///
 /// `AllocError`: memory ran out.
-pub fn line_over_caches(
-    alloc: Global,
-    on: &LoopOn<'_>,
-    nearest: Option<u32>,
-) -> Result<Line, AllocError>
+pub fn line_over_caches(alloc: Global, on: &LoopOn<'_>, seen: Seen) -> Result<Line, AllocError>
+    requires { IsOver on.now.image.now on.now.cores seen.over_caches }
     ensures { IfOk result (spec.IsLine cache.Starts cache.Makes caches.store_view caches.waits on.now.image.now Grain.Lines on.now.cores on.now.room) }
 {
     let cores = on.cores;
-    let guess = guess_of(cores, nearest);
-    match least_by_halves(alloc, on.image, Grain::Lines, cores, guess)? {
+    let known = match seen.over_caches {
+        OverCaches::Clear => return Ok(Line::Never),
+        OverCaches::Conflict(conflict) => known_by(on.image, conflict, cores),
+        OverCaches::Unseen => None,
+    };
+    let guess = guess_of(cores, seen.in_order.nearest);
+    match least_by_halves(alloc, on.image, Grain::Lines, cores, guess, known)? {
         Some(least) => {
             let on = LoopOn {
                 image: on.image,
@@ -71,9 +76,8 @@ fn line_from(alloc: Global, on: &LoopOn<'_>, later: Option<u32>) -> Result<Line,
     ensures { IfOk result (spec.IsFrom cache.Starts cache.Makes caches.store_view caches.waits on.now.image.now on.now.cores on.now.room) }
 {
     if let Some(later) = later {
-        let turns = run_ahead::<CachedBus>(alloc, on, later)?;
-        let shown = show::<CachedBus>(alloc, on, turns.as_slice())?;
-        if let Some(shown) = shown {
+        let book: Book<CachedBus> = run_ahead(alloc, on, later)?;
+        if let Some((turns, shown)) = show(alloc, on, book)? {
             return Ok(Line::From {
                 cores: on.cores,
                 turns,

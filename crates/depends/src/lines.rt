@@ -9,7 +9,7 @@ ghost use Rattle.depends.specs.Ran.{IsSeen, IsSeenOn};
 
 use crate::line::{Line, line_over_caches, push_line};
 use crate::plain::line_over_plain;
-use crate::ran::{Seen, ran_for};
+use crate::ran::{OverCaches, Seen, ran_for};
 use crate::rows::rows_of;
 use crate::text::push_rows;
 use all_schedules::{LoopOn, Room};
@@ -44,7 +44,7 @@ pub fn print_lines<S: AsStr>(
     };
     let seen = Seen {
         in_order,
-        is_clear: ran.is_clear,
+        over_caches: ran.over_caches,
     };
     let mut text = print_rows(alloc, &run.sums, run.lengths.as_slice())?;
     push_stores(alloc, &mut text, image, cores, stores, room, seen)?;
@@ -100,13 +100,21 @@ fn push_store(
     ensures { OnOk result (spec.AddStore image.now cores room word.now (store_named word.now) text.old.items text.new.items) }
 {
     let (store, on_machine) = store_on(image, cores, word)?;
-    let is_clear = seen.is_clear && asks_nothing(store.asked());
+    let over_caches = if asks_nothing(store.asked()) {
+        seen.over_caches
+    } else {
+        OverCaches::Unseen
+    };
     let on = LoopOn {
         image: &on_machine,
         cores: cores.count(),
         room,
     };
-    let line = line_of(alloc, &on, store, Seen { is_clear, ..seen })?;
+    let seen = Seen {
+        over_caches,
+        ..seen
+    };
+    let line = line_of(alloc, &on, store, seen)?;
     push_line(text, word, on.cores, &line)
 }
 
@@ -132,13 +140,7 @@ fn line_of(alloc: Global, on: &LoopOn<'_>, store: Store, seen: Seen) -> Result<L
     ensures { IfOk result (spec.IsLineOf on.now.image.now store on.now.cores on.now.room) }
 {
     match store {
-        Store::Caches(_) => {
-            if seen.is_clear {
-                Ok(Line::Never)
-            } else {
-                line_over_caches(alloc, on, seen.in_order.nearest)
-            }
-        }
+        Store::Caches(_) => line_over_caches(alloc, on, seen),
         Store::Plain => line_over_plain(alloc, on, seen.in_order),
     }
 }

@@ -9,8 +9,8 @@ ghost use Rattle.depends.specs.Plain as spec;
 
 use crate::least::least_over_bytes;
 use crate::line::Line;
-use crate::shown::{first_of, history_of};
-use all_schedules::{LoopOn, trace_is_made_again, turns_of};
+use crate::shown::show;
+use all_schedules::{LoopOn, trace_is_made_again};
 use homefree::Book;
 use never_or_shown::{Ahead, InOrder, show_conflict};
 use std::alloc::{AllocError, Global};
@@ -65,13 +65,8 @@ fn line_of_violation(
     requires violation { HasViolation book.history }
     ensures { IfOk result (spec.IsPlainFrom on.now.image.now on.now.cores on.now.room) }
 {
-    trace_is_made_again(&book);
     let cores = on.cores;
-    let history = history_of(alloc, book)?;
-    let entries = history.as_slice();
-    let first = first_of(alloc, on.image, cores, entries)?;
-    let turns = turns_of(alloc, cores, entries)?;
-    let shown = first.unwrap();
+    let (turns, shown) = show(alloc, on, book)?.unwrap();
     Ok(Line::From {
         cores,
         turns,

@@ -1,5 +1,5 @@
 //! What one run of the loop shows.
-ghost use Rattle.std.specs.Prelude.{◌≡◌, true, IfOk, None};
+ghost use Rattle.std.specs.Prelude.{IfOk};
 ghost use Rattle.depends.specs.Ran as spec;
 
 use dependences::{CacheConflict, RunInOrder, shown_in_order, shown_over_caches};
@@ -10,20 +10,29 @@ use std::alloc::{AllocError, Global};
 use std::convert::AsStr;
 use trace_commands::{Store, store_named};
 
+/// What the run in order has shown over the caches of the image's machine.
+#[derive(Clone, Copy)]
+pub enum OverCaches {
+    /// Nothing: it didn't look at them.
+    Unseen,
+    /// On so many cores two epochs conflict in this.
+    Conflict(CacheConflict),
+    /// No schedule of so many cores, or of fewer, has a violation.
+    Clear,
+}
+
 /// What the run in order shows.
 #[derive(Drop)]
 pub struct Ran {
     pub run: RunInOrder,
-    /// It has shown that over the caches of the image's machine no schedule of so many cores, or of fewer, has a violation.
-    pub is_clear: bool,
+    pub over_caches: OverCaches,
 }
 
 /// What the lines of the stores take of it.
 #[derive(Clone, Copy)]
 pub struct Seen {
     pub in_order: InOrder,
-    /// As in `Ran`.
-    pub is_clear: bool,
+    pub over_caches: OverCaches,
 }
 
 /// What the run in order shows. Where one of these words names caches, it looks at those of the image's machine, too.
@@ -45,7 +54,7 @@ pub fn ran_for<S: AsStr>(
     };
     Ok(Ran {
         run,
-        is_clear: false,
+        over_caches: OverCaches::Unseen,
     })
 }
 
@@ -66,16 +75,15 @@ fn run_over_caches(alloc: Global, image: &Image, cores: u32) -> Result<Ran, Allo
     let Ok(ran) = shown_over_caches(alloc, image, cores) else {
         return Err(AllocError);
     };
-    let is_clear = is_none(ran.conflict);
-    Ok(Ran {
-        run: ran.run,
-        is_clear,
-    })
-}
-
-/// Whether there is no conflict.
-fn is_none(conflict: Option<CacheConflict>) -> bool
-    ensures { result ≡ true → conflict ≡ None }
-{
-    conflict.is_none()
+    let run = ran.run;
+    match ran.conflict {
+        Some(conflict) => Ok(Ran {
+            run,
+            over_caches: OverCaches::Conflict(conflict),
+        }),
+        None => Ok(Ran {
+            run,
+            over_caches: OverCaches::Clear,
+        }),
+    }
 }

@@ -1,13 +1,14 @@
-//! A violation that a schedule makes.
-ghost use Rattle.std.specs.Prelude.{◌≡◌, ◌<◌, All, IfOk, IfSome, IsSome};
+//! The violation of a history, and the turns that make it.
+ghost use Rattle.std.specs.Prelude.{◌≡◌, IfOk, IfSome, IsSome};
+ghost use Rattle.homefree.specs.LockView.{loop_of};
 ghost use Rattle.all_schedules.specs.Made.{the_loop};
 ghost use Rattle.conflicts.specs.Explained.{IsExplained};
 ghost use Rattle.never_or_shown.specs.Violation.{HasViolation};
 ghost use Rattle.depends.specs.Shown as spec;
 
-use all_schedules::{LoopOn, drive_schedule};
+use all_schedules::{LoopOn, trace_is_made_again, turns_of};
 use conflicts::{Blame, Explanation, Site, explain_with_sites};
-use homefree::{Book, TurnFault};
+use homefree::Book;
 use rv32_exec::Image;
 use spec_history::Entry;
 use std::alloc::{AllocError, Global};
@@ -33,33 +34,33 @@ pub struct Shown {
     pub met: Met,
 }
 
-/// The first violation that a schedule makes over a fresh store. None: it makes none, or its history is full before.
+/// The first violation of a book's history, and the turns that make it over a fresh store. None: it has none.
 ///
 /// `AllocError`: memory ran out.
 pub fn show<S: EpochStore>(
     alloc: Global,
     on: &LoopOn<'_>,
-    schedule: &[u32],
-) -> Result<Option<Shown>, AllocError>
-    requires schedule { All (λ core. core < on.now.cores) schedule.now }
-    ensures { IfOk result (λ shown. IfSome shown (spec.IsShown S.starts S.makes S.view S.waits (the_loop on.now) schedule.now)) }
+    book: Book<S>,
+) -> Result<Option<(Vec<u32>, Shown)>, AllocError>
+    requires same { loop_of book ≡ the_loop on.now }
+    ensures is { IfOk result (λ it. IfSome it (λ found. spec.IsShown S.starts S.makes S.view S.waits (the_loop on.now) found.0.items found.1)) }
+    ensures some { HasViolation book.history → IfOk result IsSome }
 {
-    let made: Result<Book<S>, TurnFault> = drive_schedule(alloc, on, schedule);
-    match made {
-        Ok(book) => {
-            let history = history_of(alloc, book)?;
-            let cores = on.cores;
-            first_of(alloc, on.image, cores, history.as_slice())
-        }
-        Err(TurnFault::HistoryFull) => Ok(None),
-        Err(TurnFault::NoMemory) => Err(AllocError),
-    }
+    trace_is_made_again(&book);
+    let cores = on.cores;
+    let history = history_of(alloc, book)?;
+    let entries = history.as_slice();
+    let Some(first) = first_of(alloc, on.image, cores, entries)? else {
+        return Ok(None);
+    };
+    let turns = turns_of(alloc, cores, entries)?;
+    Ok(Some((turns, first)))
 }
 
 /// The history of a book, which ends here: what explains the history has the book's memory then.
 ///
 /// `AllocError`: memory ran out.
-pub fn history_of<S: EpochStore>(alloc: Global, book: Book<S>) -> Result<Vec<Entry>, AllocError>
+fn history_of<S: EpochStore>(alloc: Global, book: Book<S>) -> Result<Vec<Entry>, AllocError>
     ensures { IfOk result (λ entries. entries.items ≡ book.history) }
 {
     Vec::from_slice(alloc, book.history())
@@ -68,7 +69,7 @@ pub fn history_of<S: EpochStore>(alloc: Global, book: Book<S>) -> Result<Vec<Ent
 /// The first violation of a history, if it has one.
 ///
 /// `AllocError`: memory ran out.
-pub fn first_of(
+fn first_of(
     alloc: Global,
     image: &Image,
     cores: u32,

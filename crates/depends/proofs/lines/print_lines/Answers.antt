@@ -10,5 +10,5 @@ push_stores-requires-clause-seen g c =
     let few : c.min.result ≡ length c.in_ok-ran.ran.run.lengths.items = grind (arith, most) in
     record {
       ran = record { all = subst (AreAll image) (sym few) ran.lengths.all; nearest = ran.nearest; later = ran.later };
-      clear = rw (← c.count.ensures.value) ran.clear;
+      over = rw (← c.count.ensures.value) ran.over;
     }
