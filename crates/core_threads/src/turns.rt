@@ -193,7 +193,7 @@ fn goes_on(answer: &Answer, hart: &mut Hart) -> After
 {
     match answer {
         Answer::Go(reached) => {
-            *hart = *reached;
+            hart.copy_from(reached);
             After::Goes
         }
         Answer::Again(_) => After::Waits,

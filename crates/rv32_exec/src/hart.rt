@@ -103,8 +103,9 @@ impl Hart {
     }
 
     /// Becomes this other one, field by field: a copy of the whole would be a call of the C library.
-    #[inline]
-    pub(crate) fn copy_from(&mut self, other: &Hart)
+    // Always inlined: each access of a core makes three such copies.
+    #[inline(always)]
+    pub fn copy_from(&mut self, other: &Hart)
         ensures { self.new ≡ other.now }
     {
         self.x.copy_from(&other.x);

@@ -50,20 +50,30 @@ impl Registers {
         let _ = &self.places;
     }
 
+    /// The registers x0 to x31.
+    #[inline]
+    fn x(&self) -> &[u32; 32]
+        ensures { result.now ≡ self.now.x }
+    {
+        self.places.first_chunk().unwrap()
+    }
+
     /// Whether these hold the same.
+    #[inline]
     pub(crate) fn is(&self, other: &Registers) -> bool
         ensures { result ≡ pointwise nat_eq self.now.x other.now.x }
     {
-        self.places[..32] == other.places[..32]
+        self.x() == other.x()
     }
 
     /// Becomes these, with nothing written to x0: a copy of all places would be a call of the C library.
-    #[inline]
+    #[inline(always)]
     pub(crate) fn copy_from(&mut self, other: &Registers)
         ensures x { self.new.x ≡ other.now.x }
         ensures unread { self.new.unread ≡ 0 }
     {
-        self.places[..32].copy_from_slice(&other.places[..32]);
+        other.look();
+        *self.places.first_chunk_mut::<32>().unwrap() = *other.x();
         self.places[32] = 0;
     }
 
