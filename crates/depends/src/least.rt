@@ -1,5 +1,5 @@
 //! From how many cores on epochs conflict.
-ghost use Rattle.std.specs.Prelude.{◌≡◌, ◌≤◌, IfNone, IfOk, IfSome, Some};
+ghost use Rattle.std.specs.Prelude.{◌≡◌, ◌≤◌, ℕ, IfNone, IfOk, IfSome, Some};
 ghost use Rattle.rv32_image.specs.Image.{IsImage};
 ghost use Rattle.dependences.specs.Kept.{AreAll};
 ghost use Rattle.dependences.specs.KeptTouches.{IsFound};
@@ -69,7 +69,8 @@ fn least_near(image: &Image, cores: u32, nearest: Option<u32>) -> Option<Found>
 /// later one at a time. None: those are more, or the conflict is of a buffer.
 pub fn known_by(_image: &Image, conflict: CacheConflict, cores: u32) -> Option<Found>
     requires { IsFound _image.now cores (Some conflict) }
-    ensures { IfSome result (λ found. spec.Conflicts _image.now Grain.Lines found.cores) }
+    ensures some { IfSome result (λ found. spec.Conflicts _image.now Grain.Lines found.cores) }
+    ensures none { IfNone result ((later : ℕ) → conflict ≡ CacheConflict.Line later → cores ≤ later) }
 {
     early_epochs_conflict_on_few_cores();
     match conflict {

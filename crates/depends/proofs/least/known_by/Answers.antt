@@ -4,8 +4,8 @@ use Rattle.dependences.specs.Conflict.{LineConflictInOrder}
 use Rattle.dependences.specs.KeptTouches.{IsFound}
 use Rattle.depends.proofs.least.known_by.Goals as goal
 
-pub returns-in-Line : goal.returns-in-Line
-returns-in-Line c =
+pub returns-in-Line-clause-some : goal.returns-in-Line-clause-some
+returns-in-Line-clause-some c =
     let image = c.args._image.now in
     let later = c.in-Line.later in
     let found : (conflict : LineConflictInOrder image c.args.cores) × (conflict.later ≡ later) =
