@@ -1,6 +1,6 @@
 -- What one run of the loop shows.
 -- Source: this project.
-use Rattle.std.specs.Prelude.{◌≡◌, ℕ, Some}
+use Rattle.std.specs.Prelude.{ℕ, Some}
 use Rattle.rv32_image.specs.Image.{LoadedImage}
 use Rattle.dependences.specs.KeptTouches.{IsFound}
 use Rattle.dependences.specs.Lengths.{AreLengths}
