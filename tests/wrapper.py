@@ -15,6 +15,7 @@ import sys
 import tempfile
 import time
 from collections.abc import Callable, Iterator
+from itertools import accumulate
 from pathlib import Path
 
 from common import ROOT, Check, Script, called, left_out
@@ -35,17 +36,20 @@ case $1 in
     try) shift 2; echo "unproved $*"; cat; exit 4 ;;
 esac
 """
-# The kit's checker: notes the crate and the verb, and what a program is linked from is the program.
+# The kit's checker: notes the crate and the verb, and its jobs when it begins and ends. What a program is linked from
+# is the program.
 CHECKER = """\
 #!/bin/sh
 verb=$1
 for word; do
-    case $word in --crate-name=*) crate=${word#*=} ;; esac
+    case $word in --crate-name=*) crate=${word#*=} ;; --jobs=*) jobs=${word#*=} ;; esac
     last=$word
 done
 echo "$crate $verb" >>"$CALLS"
 echo "said of $crate"
+echo "$jobs" >>"$JOBS"
 [ -z "$SLOW" ] || sleep "$SLOW"
+echo "-$jobs" >>"$JOBS"
 [ "$crate" != "$REFUSED" ] || exit 1
 case $last in
     --*) ;;
@@ -68,7 +72,7 @@ class Tree:
 
     def __init__(self, folder: str) -> None:
         self.top = Path(folder, "a tree")
-        self.calls = Path(folder, "calls")
+        self.calls, self.jobs = Path(folder, "calls"), Path(folder, "jobs")
         self.bin = Path(folder, "bin")
         self.kit = Path(folder, "kit")
         for crate in ("low", "other", "middle"):
@@ -100,8 +104,8 @@ class Tree:
             **environment: str) -> tuple[str, list[str], int, list[str]]:
         """The wrapper's output, its lines on standard error, its status and the calls of the checker, sorted."""
         self.calls.write_text("")
-        environment = {"PATH": f"{path or self.bin}:/usr/bin:/bin", "CALLS": str(self.calls), "REFUSED": "",
-                       "NOTHING": "", "SLOW": "", "KIT": str(self.kit), **environment}
+        environment = {"PATH": f"{path or self.bin}:/usr/bin:/bin", "CALLS": str(self.calls), "JOBS": str(self.jobs),
+                       "REFUSED": "", "NOTHING": "", "SLOW": "", "KIT": str(self.kit), **environment}
         done = called([str(wrapper or self.top / "trace_cli"), *words], "given\n", env=environment)
         return done.stdout, done.stderr.splitlines(), done.returncode, sorted(self.calls.read_text().splitlines())
 
@@ -246,6 +250,22 @@ def rows() -> list[tuple[str, Trial]]:
                                             1) and wanted in errors and "said of bench" in errors
                 else f"got {output!r}, {errors!r}, {status}")
 
+    def as_many_jobs_as_processors(tree: Tree) -> str | None:
+        side_by_side = [f"low_{it}" for it in range(6)]
+        tree.write("crates.txt", "\n".join([CRATES, *(f"{it}:" for it in side_by_side),
+                                            f"bench_all: {' '.join(side_by_side)}", ""]))
+        for it in side_by_side:
+            tree.write(f"crates/{it}/src/lib.rt", "low")
+        tree.write("crates/bench_all/src/main.rt", "bench")
+        for it in ("bench", "bench_all"):
+            (tree.top / it).symlink_to("trace_cli")
+        tree.run(tree.top / "tools/build", words=(), SLOW="0.2")
+        begun_and_ended = [int(it) for it in tree.jobs.read_text().splitlines()]
+        at_once, processors = [*accumulate(begun_and_ended)], len(os.sched_getaffinity(0))
+        good = (len(at_once), at_once[-1]) == (22, 0) and 0 not in begun_and_ended
+        good = good and min(processors, 4) <= max(at_once) <= processors
+        return None if good else f"the jobs that began and ended are {begun_and_ended}"
+
     def from_its_folder(tree: Tree) -> str | None:
         tree.is_run(BUILD)
         done = called(["sh", "trace_cli", "seq"], "", cwd=tree.top)
@@ -315,6 +335,7 @@ def rows() -> list[tuple[str, Trial]]:
         ("a link of another program's name", another_program),
         ("all programs", all_programs),
         ("all programs, of which one is refused", all_programs_with_one_refused),
+        ("at most as many jobs as processors", as_many_jobs_as_processors),
         ("from its own folder", from_its_folder),
         ("a crate that is refused", refused),
         ("no program was made", no_program),
