@@ -1,10 +1,12 @@
 #!/usr/bin/env python3
 """Tests tests/gate-time: what it notes of a command that starts processes of the checker, and what it prints of a file.
+And tests/lanes: what it prints before anything is kept, and after.
 
 Usage: tests/gate_time.py
 
 The checker is a stub that works for a second, so nothing is proved. Exits with 1 where a check failed.
 """
+import os
 import subprocess
 import sys
 import tempfile
@@ -92,9 +94,25 @@ def ends() -> Iterator[Check]:
     yield "a SIGTERM", "what the command started goes on after it" if goes_on() else None
 
 
+def lanes() -> Iterator[Check]:
+    """What is printed of a kit beside which nothing is kept, and of one with a proof beside it."""
+    with tempfile.TemporaryDirectory() as folder:
+        kit, command = Path(folder, "kit"), Path(folder, "bin", "rt")
+        command.parent.mkdir()
+        command.write_text(f"#!/bin/sh\necho '{kit}/START-HERE.md'\n")
+        command.chmod(0o755)
+        path = f"{command.parent}:{os.environ['PATH']}"
+        said = called([TOOL.parent / "lanes"], env={**os.environ, "PATH": path}).stdout
+        good = said.strip().isdecimal() and 1 <= int(said) <= len(os.sched_getaffinity(0))
+        yield "how many checks there are at once, from nothing", None if good else f"printed {said!r}"
+        Path(folder, "rattle-kept", "proof-low").mkdir(parents=True)
+        said = called([TOOL.parent / "lanes"], env={**os.environ, "PATH": path}).stdout
+        yield "nothing where a proof is kept", differs(said, "\n")
+
+
 def main() -> int:
     script = Script()
-    script.run(works, ends)
+    script.run(works, ends, lanes)
     return script.ended()
 
 
