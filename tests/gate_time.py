@@ -1,6 +1,6 @@
 #!/usr/bin/env python3
 """Tests tests/gate-time: what it notes of a command that starts processes of the checker, and what it prints of a file.
-And tests/lanes: what it prints before anything is kept, and after.
+And tests/lanes: what it prints before anything is kept, and after; and tests/function-times, of files of known times.
 
 Usage: tests/gate_time.py
 
@@ -35,6 +35,16 @@ processor minutes: tests 1.1 (low 1.1)
 processor minutes: wrong bodies 0.2
 processor minutes: the rest 0.1
 processor minutes: all 3.4
+"""
+# Files that the checker writes, and when, in seconds; and what is printed of them.
+WRITTEN = (("Rattle-orb-specs.Buffer.oantt", 100), ("Rattle-orb-proofs.Firsts.oantt", 101.5), ("notes", 102),
+           ("Rattle-orb-proofs.buffer.Orb.at.Code.Mir.oantt", 102), ("Rattle-orb-proofs.buffer.Orb.at.Lts.oantt", 105),
+           ("Rattle-orb-proofs.buffer.Orb.at.Proof.oantt", 109), ("Rattle-orb-proofs.buffer.Orb.at.Met.oantt", 109.01),
+           ("Rattle-orb-proofs.buffer.Orb.enter.Lts.oantt", 111.01))
+TIMES = """\
+   7.5 s  buffer::Orb::at: Proof 4.0, Lts 3.0, Code 0.5
+   2.0 s  buffer::Orb::enter: Lts 2.0
+   1.5 s  Firsts
 """
 
 
@@ -110,9 +120,29 @@ def lanes() -> Iterator[Check]:
         yield "nothing where a proof is kept", differs(said, "\n")
 
 
+def function_times() -> Iterator[Check]:
+    """What is printed of the files of a check, of one without files, and of other words."""
+    with tempfile.TemporaryDirectory() as folder:
+        tool, kept = Path(folder, "tests", "function-times"), Path(folder, "crates/orb/out/incremental/of a kit")
+        tool.parent.mkdir()
+        tool.write_text((TOOL.parent / "function-times").read_text())
+        tool.chmod(0o755)
+        none = called([tool, "orb"])
+        yield "no file of a check", None if (none.stdout, none.returncode) == ("", 2) else f"{none}"
+        kept.mkdir(parents=True)
+        for name, at in WRITTEN:
+            file = kept / name
+            file.touch()
+            os.utime(file, (at, at))
+        yield "the functions that took longest", differs(called([tool, "orb"]).stdout, TIMES)
+        yield "one function", differs(called([tool, "orb", "1"]).stdout, TIMES.partition("\n")[0] + "\n")
+        wrong = called([tool, "orb", "many"])
+        yield "a count of other words", None if wrong.returncode == 2 and not wrong.stdout else f"{wrong}"
+
+
 def main() -> int:
     script = Script()
-    script.run(works, ends, lanes)
+    script.run(works, ends, lanes, function_times)
     return script.ended()
 
 
