@@ -23,8 +23,8 @@ pub struct WhyAsked {
 }
 
 /// `why`: replays the trace that the reader gives below its image on the flat machine, and writes the report of which conflicts
-/// rolled back, on the machine that is asked for, and with a line for each attempt, where that is; where the trace is illegal, the line of an
-/// audit.
+/// rolled back on the machine that is asked for, with a line for each attempt where that is asked for too. Where the trace is illegal, it
+/// writes the line of an audit.
 ///
 /// The status is 0 where the trace is legal, 4 where it is illegal, 2 where the image or the trace can't be read or the machine is
 /// refused, and 3 where memory ran out or a write failed. In the last two cases one line on the error stream says which. Where anything

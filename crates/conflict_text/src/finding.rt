@@ -80,7 +80,7 @@ struct Gathering {
 struct Gathered {
     /// What is found of its violations.
     findings: Findings,
-    /// How its attempts ended; but for those that were violated, unless all are told.
+    /// How its attempts ended. Those that were violated are among them only where all are told.
     ends: Ends,
     /// The homefree epoch after it.
     homefree: u32,
@@ -129,7 +129,8 @@ fn print(
     Ok(report)
 }
 
-/// The report but for the lines of its sums, the sums, and the image. The history and its sites are given back, which nothing else needs.
+/// The report without the lines of its sums; the sums; and the image. The history and its sites are given back, since nothing else needs
+/// them.
 fn before_sums(
     alloc: Global,
     wanted: bool,
@@ -164,7 +165,7 @@ fn before_sums(
     Ok((report, totals, image))
 }
 
-/// What is gathered of a history, in one replay. Of attempts that were violated only where all are told.
+/// What is gathered of a history, in one replay. Attempts that were violated are among it only where all are told.
 fn gather(
     alloc: Global,
     all: bool,
@@ -298,7 +299,8 @@ impl Findings {
     }
 }
 
-/// The list with an attempt at its end, if there is one. One that was violated is kept where all are: else its violation tells of it.
+/// The list with an attempt at its end, if there is one. An attempt that was violated is kept only where all are told: else its violation
+/// tells of it.
 fn keep_ended(ended: &mut Vec<Ended>, all: bool, found: Option<Ended>) -> Result<(), AllocError>
     ensures { OnOk result (ended.new.items ≡ ended.old.items ++ filter (is_kept all) (option_to_list found)) }
 {
