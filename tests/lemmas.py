@@ -1,10 +1,11 @@
 #!/usr/bin/env python3
-"""Tells each lemma that nothing reaches: tests/lemmas.py [FOLDER]
+"""Tells each lemma that nothing reaches, and each answer that a further word breaks: tests/lemmas.py [FOLDER]
 
 A definition in a file of proofs/ is reached where a source, a definition in specs/, or an answer, an invariant or a
 proof of a function names it, or a definition that is itself reached. Names are compared and not what they stand for:
 one that is named anywhere counts as reached wherever it stands. So what is told is never needed, and `rt check` still
-decides. FOLDER has the crates; without it they are those of this repository. Exits with 1 where there is such a lemma.
+decides. A function that puts the parts of a line together by the lemma `joined` has no answers, since these count the
+parts. FOLDER has the crates; without it they are those of this repository. Exits with 1 where something is told.
 """
 import re
 import sys
@@ -24,6 +25,8 @@ MODULE = re.compile(r" *module\b")
 IMPORT = re.compile(r"(?:pub )?(?:use|mod)\b")
 DIRECTIVE = re.compile(r"(?:infix\w*|syntax|open|#)")
 OF_FUNCTIONS = ("Answers.antt", "Invariants.antt", "Proof.antt")
+JOINS = re.compile(r"#\[tactic\([^\]]*Joining::joined[^\]]*\)\]\n"
+                   r"(?: *(?:#\[|///).*\n)* *(?:pub(?:\([^)]*\))? )?fn (\w+)")
 
 
 @dataclass
@@ -108,9 +111,20 @@ def reached(folder: Path) -> Iterator[Check]:
         yield f"{it.file.relative_to(folder)}:{it.line}", f"nothing reaches {it.name}" if it in left else None
 
 
+def joined(folder: Path) -> Iterator[Check]:
+    """Each function of the folder that puts the parts of a line together."""
+    for file in sorted(folder.glob("crates/*/src/**/*.rt")):
+        proofs = folder / Path(*file.relative_to(folder).parts[:2]) / "proofs"
+        for function in JOINS.findall(file.read_text(encoding="utf-8")):
+            answers = [*proofs.glob(f"**/{function}/Answers.antt")]
+            yield (f"{file.relative_to(folder)}: {function}",
+                   "it has answers, which a word more on its line breaks" if answers else None)
+
+
 def main() -> int:
     script = Script()
-    script.run(partial(reached, Path(script.words[0]) if script.words else ROOT))
+    folder = Path(script.words[0]) if script.words else ROOT
+    script.run(partial(reached, folder), partial(joined, folder))
     return script.ended()
 
 
