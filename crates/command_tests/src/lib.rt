@@ -1,13 +1,11 @@
-//! Tests of dependences and limits, of runs on threads, of the lock and of what a run counts, and of the commands `run`, `replay`,
-//! `seq`, `audit` and `why`, over public calls alone.
+//! Tests of dependences and limits, of runs on threads, of the lock and of what a run counts, and of the commands `run` and `replay`,
+//! over public calls alone.
 #![tactic(auto)]
 
 #[cfg(test)]
 mod commands;
 #[cfg(test)]
 mod counts;
-#[cfg(test)]
-mod explaining;
 #[cfg(test)]
 mod gates;
 #[cfg(test)]

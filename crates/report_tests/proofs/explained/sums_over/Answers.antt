@@ -1,5 +1,5 @@
 use Rattle.std.proofs.Common.{[]}
-use Rattle.command_tests.proofs.explaining.explained.sums_over.Goals as goal
+use Rattle.report_tests.proofs.explained.sums_over.Goals as goal
 
 pub loop-finding-init : goal.loop-finding-init
 loop-finding-init c = ([], c.new-sums.ensures)

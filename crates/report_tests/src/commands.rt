@@ -1,6 +1,6 @@
 //! The commands `seq` and `audit`, and the program `why`: what no contract can say, which is that failed reads and writes end a command, tried once and not again.
 
-use crate::explaining::reports::{ILLEGAL, WAITS, WAITS_TOLD};
+use crate::reports::{ILLEGAL, WAITS, WAITS_TOLD};
 use conflict_text::work;
 use std::alloc::Global;
 use std::io;

@@ -3,14 +3,13 @@
 ghost use Rattle.std.specs.Prelude.{◌≡◌, IfOk, OnOk, true};
 ghost use Rattle.conflict_findings.specs.Followed.{IsFollowed, IsFollowedTo};
 
-use crate::explaining::rows::{
+use crate::rows::{
     BUFFER_FULL, BUFFER_FULL_FATES, BUFFER_FULL_PAIRS, BUFFER_FULL_SUMS, BUFFER_FULL_VIOLATIONS,
     COMMITTED_BYTES, COMMITTED_BYTES_VIOLATIONS, HISTOGRAM, HISTOGRAM_FATES, HISTOGRAM_PAIRS,
     HISTOGRAM_SUMS, HISTOGRAM_VIOLATIONS, LATER_BYTES, LATER_BYTES_VIOLATIONS, STORED_BYTES,
     STORED_BYTES_VIOLATIONS,
 };
-use crate::explaining::words::{count_of, index, place_in};
-use crate::words::{number, word};
+use crate::words::{count_of, index, number, place_in, word};
 use conflict_findings::{
     Access, Bounds, Fates, Finding, Followed, Pair, PairSum, Part, Rollback, Sum, Sums, SumsByKind,
     finding_of, pairs_by_weight,

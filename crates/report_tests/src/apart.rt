@@ -1,6 +1,6 @@
 //! What `why` prints where bytes have lines of their own. The texts were worked out by hand.
 
-use crate::explaining::reports::{CAME_TRUE, FULL, THREE_RUNS, THREE_RUNS_TOLD, is_told_on};
+use crate::reports::{CAME_TRUE, FULL, THREE_RUNS, THREE_RUNS_TOLD, is_told_on};
 
 /// Epoch 0 commits a word beside each of three that epoch 1 has read, in three lines.
 const THREE_LINES: &str = "size 256

@@ -1,6 +1,14 @@
-//! The words of a row that name places and counts.
+//! The words of a row, and those that name places and counts.
 
-use crate::words::word;
+/// The word at a place of a text, counted from 0; empty where there is none.
+pub fn word<'a>(text: &'a str, place: usize) -> &'a str {
+    text.split_whitespace().nth(place).unwrap_or("")
+}
+
+/// The number at a place of a text. Where there is none, one that no row has.
+pub fn number(text: &str, place: usize) -> u32 {
+    word(text, place).parse().ok().unwrap_or(u32::MAX)
+}
 
 /// The same as a place in a history or a count.
 pub fn index(row: &str, place: usize) -> usize {

@@ -1,5 +1,5 @@
 use Rattle.conflict_findings.specs.Followed.{IsFollowed}
-use Rattle.command_tests.proofs.explaining.explained.note_before.Given as goal
+use Rattle.report_tests.proofs.explained.note_before.Given as goal
 
 -- what is kept is right
 abbrev pub invariant-loop : goal.invariant-loop

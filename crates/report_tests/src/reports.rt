@@ -1,6 +1,6 @@
 //! Worked histories and what the program `why` prints of them.
 
-use crate::explaining::commands::Ran;
+use crate::commands::Ran;
 use conflict_text::work;
 use std::alloc::Global;
 

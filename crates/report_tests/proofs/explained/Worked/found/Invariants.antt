@@ -1,5 +1,5 @@
 use Rattle.conflict_findings.specs.Followed.{IsFollowed}
-use Rattle.command_tests.proofs.explaining.explained.Worked.found.Given as goal
+use Rattle.report_tests.proofs.explained.Worked.found.Given as goal
 
 -- what is kept is right
 abbrev pub invariant-loop-e : goal.invariant-loop-e

@@ -1,7 +1,7 @@
 use Rattle.std.proofs.Common.{List}
 use Rattle.conflict_findings.specs.declared.rollback.Rollback.{Rollback}
 use Rattle.conflict_findings.specs.AllSums.{AreAllSums}
-use Rattle.command_tests.proofs.explaining.explained.sums_over.Given as goal
+use Rattle.report_tests.proofs.explained.sums_over.Given as goal
 
 -- they are the sums of some violations
 abbrev pub invariant-loop-finding : goal.invariant-loop-finding
