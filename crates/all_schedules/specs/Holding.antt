@@ -2,8 +2,8 @@
 -- Source: this project.
 use Rattle.std.specs.Prelude.{◌≡◌, ℕ, ◌==◌, Bool, List, [], length}
 use Rattle.rv32_image.specs.Image.{LoadedImage}
-use Rattle.dependences.specs.declared.pieces.Pieces.{Pieces}
-use Rattle.dependences.specs.Stored.{AreStores, piece_in}
+use Rattle.epoch_paths.specs.declared.pieces.Pieces.{Pieces}
+use Rattle.epoch_paths.specs.Stored.{AreStores, piece_in}
 use Rattle.even_speed.specs.Held.{Holding, holding}
 
 -- does no load wait at an address?

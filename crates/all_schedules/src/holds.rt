@@ -1,12 +1,12 @@
 //! Which loads wait in a run.
 ghost use Rattle.std.specs.Prelude.{◌≡◌, IfOk};
-ghost use Rattle.dependences.specs.Stored.{piece_in};
+ghost use Rattle.epoch_paths.specs.Stored.{piece_in};
 ghost use Rattle.even_speed.specs.Grain.{HasPieces, piece_by};
 ghost use Rattle.even_speed.specs.Held.{loads_at};
 ghost use Rattle.even_speed.specs.Holds.{holding_of};
 ghost use Rattle.all_schedules.specs.Holding as spec;
 
-use dependences::{Pieces, stores_in_order};
+use epoch_paths::{Pieces, stores_in_order};
 use even_speed::{Grain, Holds};
 use rv32_exec::NoMemory;
 use rv32_image::Image;

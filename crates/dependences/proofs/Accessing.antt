@@ -17,13 +17,14 @@ use Rattle.spec_history.specs.FlatState.{CoreState, FlatState}
 use Rattle.spec_history.specs.Effect.{with_core, effect_on}
 use Rattle.spec_history.specs.Laws.{IsKept}
 use Rattle.spec_history.proofs.OneEntry.Keeping.{with_core_same, with_core_other}
-use Rattle.spec_history.proofs.OneEntry.Going.{others_speculate}
 use Rattle.spec_history.proofs.OneEntry.Entries.{store_as}
-use Rattle.dependences.specs.Conflict.{Conflict, PathReads, memory_before, path_memory}
-use Rattle.dependences.specs.KeptRun.{IsAt}
-use Rattle.dependences.proofs.Paths.{either, past_load, past_store, path_stores, reads_there}
+use Rattle.epoch_paths.specs.InOrder.{memory_before}
+use Rattle.dependences.specs.Conflict.{Conflict, PathReads, path_memory}
+use Rattle.epoch_paths.specs.Kept.{IsAt}
+use Rattle.epoch_paths.proofs.Paths.{either, past_load, past_store, path_stores, reads_there}
 use Rattle.dependences.proofs.Windows.{IsInWindow}
 use Rattle.dependences.proofs.Starting.{IsOrderly, OnPath, beside, core_reached, cores_with, unwritten, whatever_shown}
+use Rattle.epoch_paths.proofs.Cores.{others_not}
 
 -- ---- straight cores
 
@@ -32,14 +33,6 @@ pub straight_is_other : (s : FlatState) (by k : ℕ) (c d : CoreState) → s.cor
 straight_is_other s by k c d at speculative at_k straight e =
     let same : c ≡ d = one_value (s.cores by) c d at (sym (ap s.cores e) ∙ at_k) in
     true≢false (sym straight ∙ (sym (ap (λ (x : CoreState). x.straight) same) ∙ speculative))
-
--- beside the homefree one no core has published
-pub others_not : (image : LoadedImage) (cores : ℕ) (s : FlatState) (by : ℕ) (c : CoreState) → IsKept image cores s → s.cores by ≡ Some c → c.epoch ≡ s.homefree
-    → (k : ℕ) (d : CoreState) → k ≢ by → s.cores k ≡ Some d → d.straight ≡ false
-others_not image cores s by c kept at homefree k d other at_k = elim (cases_Bool d.straight) [
-  | inl straight ↦ absurd (others_speculate image cores s by c kept at homefree k d other at_k straight)
-  | inr is ↦ is
-]
 
 -- a core that stays as straight as it was
 still_straight : (s : FlatState) (by : ℕ) (c new : CoreState) → s.cores by ≡ Some c → new.straight ≡ c.straight → (k : ℕ) (d : CoreState) → s.cores k ≡ Some d → d.straight ≡ true

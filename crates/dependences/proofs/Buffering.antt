@@ -22,18 +22,19 @@ use Rattle.spec_history.specs.Conflict.{line_number, line_count}
 use Rattle.spec_history.specs.Searches.{count_below}
 use Rattle.spec_history.proofs.OneEntry.Accesses.{load_counts}
 use Rattle.spec_history.proofs.Searches.Lines.{number_counted}
-use Rattle.dependences.specs.Paths.{LoadsAt, Stores, StoresAt, Touches}
-use Rattle.dependences.specs.Conflict.{AreBeside, AreFalling, IsInOrder, StoresIn, first_beside, run_memory}
+use Rattle.epoch_paths.specs.Paths.{LoadsAt, Stores, StoresAt, Touches}
+use Rattle.epoch_paths.specs.InOrder.{IsInOrder}
+use Rattle.dependences.specs.Conflict.{AreBeside, AreFalling, StoresIn, first_beside, run_memory}
 use Rattle.dependences.specs.Shared.{IsShared, RunBeside, SharedOverflowInOrder, TouchesIn}
 use Rattle.dependences.specs.KeptLines.{AreLines, AreLinesMarked, IsLastOf, LastTwo, StoresInLine}
 use Rattle.dependences.specs.KeptTouches.{AreShares, AreSoMany, AreTouches, AreTouchesKept, IsCount, IsEarly, IsInside, IsNear, IsSharedLine, StoresBefore, Touched, TouchesBefore, TouchesInLine, after_store, after_touch}
 use Rattle.dependences.specs.KeptWatch.{InBuffers, SharesSoFar, StoredSoFar, TouchedSoFar}
-use Rattle.dependences.proofs.Paths.{access_stops, at_start, covered, either, load_after, loads_there, past_load, past_store, path_stores, same_store, start_after, store_after, stores_there}
-use Rattle.dependences.proofs.Windows.{count_more}
+use Rattle.epoch_paths.proofs.Paths.{access_stops, at_start, covered, either, load_after, loads_there, past_load, past_store, path_stores, same_store, start_after, store_after, stores_there}
+use Rattle.epoch_paths.proofs.Cores.{count_more}
 use Rattle.dependences.proofs.Meetings.{passing}
-use Rattle.dependences.proofs.InOrder.{all_in_order}
-use Rattle.dependences.proofs.Following.{all_loaded, all_stored, all_stored_early, hart_there, load_late, no_both, same_load, store_late}
-use Rattle.dependences.proofs.Outside.{seen_now}
+use Rattle.epoch_paths.proofs.InOrder.{all_in_order}
+use Rattle.epoch_paths.proofs.Following.{all_loaded, all_stored, all_stored_early, hart_there, load_late, no_both, same_load, store_late}
+use Rattle.epoch_paths.proofs.Outside.{seen_now}
 use Rattle.dependences.proofs.Lining.{among, last_low}
 use Rattle.dependences.proofs.Words.{marked_word}
 use Rattle.dependences.proofs.Counting.{count_past, falling_few}

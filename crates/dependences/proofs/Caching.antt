@@ -2,10 +2,10 @@
 use Rattle.std.proofs.Common.{◌≡◌, false, is_some, Option, Some, None, refl, ℕ, ◌+◌, ◌<◌, ◌≤◌, subst, inl, inr, arith}
 use Rattle.std.proofs.lemmas.Bool.{cases_eq, cases_lt}
 use Rattle.rv32_image.specs.Image.{LoadedImage, IsImage}
-use Rattle.dependences.specs.Paths.{ReadsOutside}
+use Rattle.epoch_paths.specs.Paths.{ReadsOutside}
 use Rattle.dependences.specs.Conflict.{AreBeside, LineConflict, first_beside, run_memory}
 use Rattle.dependences.specs.Shared.{SharedOverflow}
-use Rattle.dependences.specs.Kept.{AreAll}
+use Rattle.epoch_paths.specs.InOrder.{AreAll}
 use Rattle.dependences.specs.KeptLines.{MeetsNone}
 use Rattle.dependences.specs.KeptTouches.{AreClear, AreTouchesKept, IsNever, Touched}
 use Rattle.dependences.proofs.Showing.{line_of, lines_shown, shared_shown}

@@ -11,10 +11,12 @@ use Rattle.spec_history.specs.Laws.{IsKept}
 use Rattle.spec_history.proofs.OneEntry.Keeping.{at_core, with_core_same}
 use Rattle.spec_history.proofs.OneEntry.Entries.{still_runs, runs_on}
 use Rattle.spec_history.proofs.OneEntry.Going.{Going}
-use Rattle.dependences.specs.Conflict.{IsInOrder, PathStores, memory_before}
-use Rattle.dependences.proofs.Paths.{path_stores}
-use Rattle.dependences.proofs.Starting.{IsOrderly, IsWritten, OnPath, cores_with, fresh, whatever_shown}
-use Rattle.dependences.proofs.Accessing.{others_not, straight_is_other}
+use Rattle.epoch_paths.specs.InOrder.{IsInOrder, memory_before}
+use Rattle.dependences.specs.Conflict.{PathStores}
+use Rattle.epoch_paths.proofs.Paths.{path_stores}
+use Rattle.epoch_paths.proofs.Cores.{fresh, others_not}
+use Rattle.dependences.proofs.Starting.{IsOrderly, IsWritten, OnPath, cores_with, whatever_shown}
+use Rattle.dependences.proofs.Accessing.{straight_is_other}
 
 -- ---- publishing
 

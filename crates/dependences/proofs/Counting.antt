@@ -4,7 +4,7 @@ use Rattle.std.proofs.lemmas.Bool.{cases_lt}
 use Rattle.spec_history.specs.Searches.{count_below}
 use Rattle.spec_history.proofs.Searches.Tests.{count_up}
 use Rattle.dependences.specs.Conflict.{AreFalling}
-use Rattle.dependences.proofs.Windows.{count_last}
+use Rattle.epoch_paths.proofs.Cores.{count_last}
 
 pub count_none : (n : ℕ) (f : ℕ → Bool) → ((k : ℕ) → f k ≡ false) → count_below n f ≡ 0
 unfolding count_below

@@ -3,7 +3,8 @@ use Rattle.std.proofs.Common.{◌≡◌, ℕ, ◌+◌, ◌<◌, ◌≤◌, false
 use Rattle.std.proofs.lemmas.Bool.Decides.{nat_tests}
 use Rattle.rv32_image.specs.Image.{LoadedImage, IsImage}
 use Rattle.dependences.specs.Conflict.{ConflictInOrder}
-use Rattle.dependences.specs.Kept.{AreAll, DependsBefore, IsLeast, is_near}
+use Rattle.epoch_paths.specs.InOrder.{AreAll}
+use Rattle.dependences.specs.Kept.{DependsBefore, IsLeast, is_near}
 use Rattle.dependences.specs.Laws.{NeverOverBytes}
 use Rattle.dependences.specs.Nearest.{Depends, IsNearest}
 use Rattle.dependences.proofs.Ending.{far_before, near_conflicts, none_at_all}

@@ -4,8 +4,9 @@ use Rattle.rv32_image.specs.Image.{LoadedImage}
 use Rattle.rv32_exec.specs.declared.sequential.End.{End}
 use Rattle.rv32_exec.specs.declared.sequential.End.TheVariants.{Done, Exit, Fault}
 use Rattle.rv32_exec.specs.Sequential.{first_epochs}
-use Rattle.dependences.specs.Paths.{ReadsOutside, Stores}
-use Rattle.dependences.specs.Conflict.{IsInOrder, LineConflictInOrder, first_beside, memory_before, memory_by, run_memory}
+use Rattle.epoch_paths.specs.Paths.{ReadsOutside, Stores}
+use Rattle.epoch_paths.specs.InOrder.{IsInOrder, memory_before}
+use Rattle.dependences.specs.Conflict.{LineConflictInOrder, first_beside, memory_by, run_memory}
 
 by_end : (image : LoadedImage) (cores few epoch : ℕ) (end : End) → first_beside cores epoch ≡ first_beside few epoch → memory_by image cores epoch end ≡ memory_by image few epoch end
 by_end image cores few epoch (Done n) same = refl

@@ -7,28 +7,18 @@ use Rattle.rv32_exec.specs.declared.sequential.End.{End}
 use Rattle.rv32_exec.specs.declared.sequential.End.TheVariants.{Done, Exit, Fault}
 use Rattle.rv32_exec.specs.Sequential.{SequentialResult, first_epochs}
 use Rattle.rv32_exec.proofs.Epochs.{first_epochs-none}
-use Rattle.dependences.specs.Paths.{ReadsOutside, Stores}
-use Rattle.dependences.specs.Conflict.{ConflictInOrder, IsInOrder, first_beside, memory_before, memory_by, path_memory, run_memory}
-use Rattle.dependences.specs.Kept.{AreAll, ConflictsBefore, DependsBefore, IsLastWriter, IsLeast, IsNext, MeetsWriter, is_near}
+use Rattle.epoch_paths.specs.Paths.{ReadsOutside, Stores}
+use Rattle.epoch_paths.specs.InOrder.{IsInOrder, memory_before, AreAll}
+use Rattle.dependences.specs.Conflict.{ConflictInOrder, first_beside, memory_by, path_memory, run_memory}
+use Rattle.epoch_paths.specs.Kept.{IsNext}
+use Rattle.dependences.specs.Kept.{ConflictsBefore, DependsBefore, IsLastWriter, IsLeast, MeetsWriter, is_near}
 use Rattle.dependences.specs.KeptRun.{IsLeft}
-use Rattle.dependences.proofs.InOrder.{all_in_order, low_most}
+use Rattle.epoch_paths.proofs.InOrder.{all_in_order, all_by_last, all_by_end}
+use Rattle.dependences.proofs.InOrder.{low_most}
 use Rattle.dependences.proofs.Showing.{number_done, run_in_order}
 use Rattle.dependences.proofs.Following.{last_most, last_of}
 
 -- ---- which epochs run in order
-
-pub all_by_last : (image : LoadedImage) (epoch : ℕ) → epoch < image.epochs → IsInOrder image epoch → (IsInOrder image (epoch + 1) → ⊥) → AreAll image (epoch + 1)
-all_by_last image epoch within order none = record {
-  most = omega (arith, within);
-  each = λ d low. all_in_order image epoch d order (omega (arith, low));
-  no_more = λ d low is. elim (cases_lt d (epoch + 1)) [
-    | inl below ↦ below
-    | inr high ↦ absurd (none (all_in_order image d (epoch + 1) is high))
-  ];
-}
-
-pub all_by_end : (image : LoadedImage) → IsInOrder image image.epochs → AreAll image image.epochs
-all_by_end image order = record { most = omega arith; each = λ d low. all_in_order image image.epochs d order (omega (arith, low)); no_more = λ d low is. low }
 
 -- before the first epoch
 pub left_first : (image : LoadedImage) (memory : List ℕ) → memory ≡ image.bytes → IsLeft image 0 memory true

@@ -1,11 +1,13 @@
 -- From fewer cores to more a conflict stays one: where none is on more cores, the path of an epoch on fewer does the same.
 use Rattle.std.proofs.Common.{◌≡◌, ℕ, ◌<◌, ◌≤◌, slice_index, sym, inl, inr, arith}
 use Rattle.rv32_image.specs.Image.{LoadedImage, IsImage}
-use Rattle.dependences.specs.Conflict.{AreBeside, Conflict, IsInOrder, LineConflict, Overflow, PathReads, first_beside, path_memory}
+use Rattle.epoch_paths.specs.InOrder.{IsInOrder}
+use Rattle.dependences.specs.Conflict.{AreBeside, Conflict, LineConflict, Overflow, PathReads, first_beside, path_memory}
 use Rattle.dependences.specs.Shared.{SharedOverflow}
 use Rattle.dependences.specs.Laws.{IsAlike}
-use Rattle.dependences.proofs.Alike.{alike}
-use Rattle.dependences.proofs.InOrder.{all_in_order, all_up, alike_all, low_most}
+use Rattle.epoch_paths.proofs.Alike.{alike}
+use Rattle.epoch_paths.proofs.InOrder.{all_in_order}
+use Rattle.dependences.proofs.InOrder.{all_up, alike_all, low_most}
 use Rattle.dependences.proofs.Showing.{earlier_within, line_of, reads_so, shared_overflow_so, stores_in_so, stores_so, touches_so, turned}
 use Rattle.dependences.proofs.Starting.{IsWritten}
 

@@ -17,16 +17,17 @@ use Rattle.rv32_exec.specs.Laws.{HasStopped}
 use Rattle.rv32_exec.proofs.LawsOfRuns.{later_event}
 use Rattle.spec_history.proofs.OneEntry.Accesses.{load_counts}
 use Rattle.dependences.specs.declared.flow.Dependence.{Dependence}
-use Rattle.dependences.specs.Paths.{LoadsAt, ReadsOutside, StoresAt}
-use Rattle.dependences.specs.Conflict.{IsInOrder, memory_before}
-use Rattle.dependences.specs.Flow.{AreDependences, DependsAt, IsBefore, IsDependence, LastStore}
+use Rattle.epoch_paths.specs.Paths.{LoadsAt, ReadsOutside, StoresAt}
+use Rattle.epoch_paths.specs.InOrder.{IsInOrder, memory_before, AreAll}
+use Rattle.epoch_paths.specs.Flow.{DependsAt, LastStore}
+use Rattle.dependences.specs.Flow.{AreDependences, IsBefore, IsDependence}
 use Rattle.dependences.specs.Nearest.{IsNearestLater}
-use Rattle.dependences.specs.Kept.{AreAll}
 use Rattle.dependences.specs.KeptStores.{AreBefore, AreMarked, IsNearest, IsNearestByte, IsNoted, IsStoredLast, Stores, AreStoresKept, dependence_of, noted}
-use Rattle.dependences.specs.KeptRun.{Flowing, IsAt, IsMine}
-use Rattle.dependences.proofs.Paths.{access_stops, at_start, before_event, covered, either, load_after, load_hart, loads_there, neither, past_load, past_store, same_store, start_after, store_after, store_hart, stores_there}
-use Rattle.dependences.proofs.Following.{all_loaded, all_stored_early, hart_there, load_late, no_both, store_late, unmarked}
-use Rattle.dependences.proofs.Outside.{OnPath, read_by_load, read_by_store, seen_now}
+use Rattle.epoch_paths.specs.Kept.{IsAt}
+use Rattle.dependences.specs.KeptRun.{Flowing, IsMine}
+use Rattle.epoch_paths.proofs.Paths.{access_stops, at_start, before_event, covered, either, load_after, load_hart, loads_there, neither, past_load, past_store, same_store, start_after, store_after, store_hart, stores_there}
+use Rattle.epoch_paths.proofs.Following.{all_loaded, all_stored_early, hart_there, load_late, no_both, store_late, unmarked}
+use Rattle.epoch_paths.proofs.Outside.{OnPath, read_by_load, read_by_store, seen_now}
 
 -- ---- lists that grow at the end
 

@@ -1,8 +1,5 @@
 -- Small facts that several files use.
 mod SmallFacts
--- An epoch on its path, and over two memories.
-pub mod Paths
-pub mod Alike
 -- One legal entry: the epochs that run, and that each is on its path.
 pub mod Windows
 pub mod Starting
@@ -33,8 +30,6 @@ pub mod Joining
 mod Nearing
 pub mod Readying
 pub mod Running
--- The pieces of memory in which epochs store.
-pub mod Noting
 -- Lines of the caches: who stored in them, and who reads in them.
 pub mod Owning
 pub mod Lining

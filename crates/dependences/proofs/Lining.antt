@@ -14,14 +14,15 @@ use Rattle.rv32_exec.specs.Sequential.{after_stop}
 use Rattle.rv32_exec.specs.Laws.{HasStopped}
 use Rattle.spec_history.specs.Conflict.{line_number}
 use Rattle.spec_history.proofs.OneEntry.Accesses.{load_counts}
-use Rattle.dependences.specs.Paths.{ReadsOutside, Stores}
-use Rattle.dependences.specs.Conflict.{IsInOrder, LineConflictInOrder, first_beside, run_memory}
+use Rattle.epoch_paths.specs.Paths.{ReadsOutside, Stores}
+use Rattle.epoch_paths.specs.InOrder.{IsInOrder}
+use Rattle.dependences.specs.Conflict.{LineConflictInOrder, first_beside, run_memory}
 use Rattle.dependences.specs.KeptOwn.{AreLong, HasStored}
 use Rattle.dependences.specs.KeptLines.{AreLinesKept, AreStored, IsLastOf, LastTwo, Lines, MeetsLine, MeetsNone, StoresInLine, other_before}
 use Rattle.dependences.specs.KeptWatch.{InLines}
-use Rattle.dependences.proofs.Paths.{at_start, covered, either, load_after, neither, past_load, past_store, path_stores, reads_there, start_after, store_after}
-use Rattle.dependences.proofs.Following.{all_loaded, all_stored, outside}
-use Rattle.dependences.proofs.Outside.{OnPath, read_by_load, read_by_store, seen_now}
+use Rattle.epoch_paths.proofs.Paths.{at_start, covered, either, load_after, neither, past_load, past_store, path_stores, reads_there, start_after, store_after}
+use Rattle.epoch_paths.proofs.Following.{all_loaded, all_stored, outside}
+use Rattle.epoch_paths.proofs.Outside.{OnPath, read_by_load, read_by_store, seen_now}
 use Rattle.dependences.proofs.SmallFacts.{either_some}
 
 -- ---- who stored in a line last

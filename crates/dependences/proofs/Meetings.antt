@@ -22,8 +22,8 @@ use Rattle.spec_history.proofs.OneEntry.Going.{Going}
 use Rattle.spec_history.proofs.Searches.Lines.{passing_byte}
 use Rattle.dependences.specs.Conflict.{AreBeside, AreFalling, Conflict, LineConflict, Overflow, PathReads, PathStores, PathTouches, StoresIn, path_memory}
 use Rattle.homefree.specs.Caused.{commits_bytes}
-use Rattle.dependences.specs.KeptRun.{IsAt}
-use Rattle.dependences.proofs.Paths.{covered, loads_there, stores_there}
+use Rattle.epoch_paths.specs.Kept.{IsAt}
+use Rattle.epoch_paths.proofs.Paths.{covered, loads_there, stores_there}
 use Rattle.dependences.proofs.Windows.{IsInWindow}
 use Rattle.dependences.proofs.Starting.{IsOrderly, beside, core_reached}
 use Rattle.dependences.proofs.Committing.{own_stored}

@@ -16,16 +16,18 @@ use Rattle.rv32_exec.specs.Laws.{HasStopped}
 use Rattle.rv32_exec.proofs.Runs.{next_event-executes, next_event-stops}
 use Rattle.dependences.specs.declared.flow.Dependence.{Dependence}
 use Rattle.dependences.specs.declared.flow.Flow.{Flow}
-use Rattle.dependences.specs.Conflict.{memory_before}
-use Rattle.dependences.specs.Kept.{AreAll, AreKept, CanRun, IsLeast, IsNearestOf, IsNext, behind, load_behind, nearer, next_runs}
+use Rattle.epoch_paths.specs.InOrder.{memory_before, AreAll}
+use Rattle.epoch_paths.specs.Kept.{CanRun, IsNext, next_runs}
+use Rattle.dependences.specs.Kept.{AreKept, IsLeast, IsNearestOf, behind, load_behind, nearer}
 use Rattle.dependences.specs.KeptStores.{AreMarked, AreStoresKept, IsNearest, IsNearestByte, IsNoted, Stores, nearest_after, noted, noted_at}
 use Rattle.dependences.specs.Flow.{AreDependences}
-use Rattle.dependences.specs.Lengths.{Lasts}
+use Rattle.epoch_paths.specs.Lengths.{Lasts}
 use Rattle.dependences.specs.Nearest.{Depends, IsLaterAt, IsNearestLater}
 use Rattle.dependences.specs.KeptRun.{IsLoadKept, Flowing, Following, HaveAllRun, IsFlowKept, IsKeptUpTo, IsRight, IsRunKept}
-use Rattle.dependences.proofs.Following.{following_load, following_start, following_store, kept_after, nearest_of, runs_in_order, writers_below}
+use Rattle.epoch_paths.proofs.InOrder.{runs_in_order}
+use Rattle.dependences.proofs.Following.{following_load, following_start, following_store, kept_after, nearest_of, writers_below}
 use Rattle.dependences.proofs.Flowing.{all_dependences, flowing_load, flowing_path, flowing_start, flowing_store, kept_on}
-use Rattle.dependences.proofs.Outside.{done_before, lasts, lasts_more, next_so}
+use Rattle.epoch_paths.proofs.Outside.{done_before, lasts, lasts_more, next_so}
 use Rattle.dependences.proofs.Writers.{IsBehind, behind_is, is_behind, least_nearer, least_some, load_least}
 
 -- ---- between loads and stores

@@ -4,7 +4,7 @@ use Rattle.std.proofs.lemmas.Bool.{and_parts, both_ways, cases_Bool, cases_eq, c
 use Rattle.dependences.specs.Conflict.{first_beside}
 use Rattle.dependences.specs.KeptLines.{IsLastOf, followed}
 use Rattle.dependences.specs.KeptTouches.{AreShares, AreSoMany, IsCount, IsEarly, IsInside, IsNear, IsSharedLine, Touched, after_store, after_touch, counted, is_shared_now, with_store, with_toucher}
-use Rattle.dependences.proofs.Windows.{count_more, count_most}
+use Rattle.epoch_paths.proofs.Cores.{count_more, count_most}
 use Rattle.dependences.proofs.Lining.{last_low, none_from, some_from}
 use Rattle.dependences.proofs.Counting.{count_none}
 

@@ -4,14 +4,16 @@ use Rattle.rv32_image.specs.Image.{LoadedImage, IsImage}
 use Rattle.rv32_exec.specs.declared.sequential.End.{End}
 use Rattle.rv32_exec.specs.declared.sequential.End.TheVariants.{Done, Exit, Fault}
 use Rattle.rv32_exec.specs.Sequential.{first_epochs}
-use Rattle.dependences.specs.Paths.{LoadsAt, ReadsOutside, Stores, StoresAt, Touches}
-use Rattle.dependences.specs.Conflict.{AreBeside, Conflict, ConflictInOrder, ConflictOver, IsInOrder, LineConflict, LineConflictInOrder, LineConflictOver, Overflow, OverflowInOrder, OverflowOver, StoresIn, first_beside, memory_before, memory_by, path_memory, run_memory}
+use Rattle.epoch_paths.specs.Paths.{LoadsAt, ReadsOutside, Stores, StoresAt, Touches}
+use Rattle.epoch_paths.specs.InOrder.{IsInOrder, memory_before}
+use Rattle.dependences.specs.Conflict.{AreBeside, Conflict, ConflictInOrder, ConflictOver, LineConflict, LineConflictInOrder, LineConflictOver, Overflow, OverflowInOrder, OverflowOver, StoresIn, first_beside, memory_by, path_memory, run_memory}
 use Rattle.dependences.specs.Shared.{IsShared, RunBeside, SharedOverflow, SharedOverflowInOrder, SharedOverflowOver, TouchesIn}
 use Rattle.dependences.specs.Laws.{IsAlike}
 use Rattle.dependences.specs.Nearest.{Depends, IsFar, IsNearest}
-use Rattle.dependences.proofs.Alike.{alike}
+use Rattle.epoch_paths.proofs.Alike.{alike}
 use Rattle.dependences.proofs.Committing.{up_to_next}
-use Rattle.dependences.proofs.InOrder.{all_in_order, alike_all, before_in_order, done_number, ends_with, low_most, memory_none}
+use Rattle.epoch_paths.proofs.InOrder.{all_in_order, before_in_order, done_number, ends_with, memory_none}
+use Rattle.dependences.proofs.InOrder.{alike_all, low_most}
 
 -- a conflict over bytes is one over lines
 pub line_of : (image : LoadedImage) (cores : ℕ) (memory : ℕ → List ℕ) → ConflictOver image cores memory → LineConflictOver image cores memory

@@ -1,21 +1,21 @@
 -- What holds of the epochs that run, as long as nothing has been violated: each is on its path, and committed memory is that of the
 -- run in order. At the start of the loop, and of an epoch.
-use Rattle.std.proofs.Common.{◌≡◌, ◌≢◌, ◌⊎◌, ℕ, ◌+◌, ◌<◌, ◌≤◌, true, false, List, length, slice_index, Option, Some, None, refl, sym, ap, subst, ◌∙◌, inl, inr, true≢false, arith}
+use Rattle.std.proofs.Common.{◌≡◌, ◌≢◌, ◌⊎◌, ℕ, ◌+◌, ◌<◌, ◌≤◌, true, false, length, slice_index, Option, Some, None, refl, sym, ap, subst, ◌∙◌, inl, inr, true≢false, arith}
 use Rattle.std.proofs.lemmas.Option.{same_Some}
 use Rattle.rv32_image.specs.Image.{LoadedImage}
 use Rattle.memory_bytes.specs.Maps.{nothing, over}
-use Rattle.rv32_exec.specs.Hart.{HartState, start_of}
-use Rattle.rv32_exec.specs.Sequential.{SequentialResult, Runs, after_steps}
 use Rattle.spec_history.specs.FlatState.{CoreState, FlatState, begun, first_state}
 use Rattle.spec_history.specs.Effect.{with_core, effect_idle}
 use Rattle.spec_history.specs.declared.entry.What.TheVariants.{Start}
 use Rattle.spec_history.specs.Laws.{IsKept}
 use Rattle.spec_history.proofs.OneEntry.Keeping.{at_core, with_core_other}
 use Rattle.spec_history.proofs.OneEntry.Going.{Going}
-use Rattle.dependences.specs.Conflict.{AreBeside, Conflict, IsInOrder, PathReads, PathStores, first_beside, memory_before, path_memory}
-use Rattle.dependences.specs.KeptRun.{IsAt}
-use Rattle.dependences.proofs.Paths.{at_start}
+use Rattle.epoch_paths.specs.InOrder.{IsInOrder, memory_before}
+use Rattle.dependences.specs.Conflict.{AreBeside, Conflict, PathReads, PathStores, first_beside, path_memory}
+use Rattle.epoch_paths.specs.Kept.{IsAt}
+use Rattle.epoch_paths.proofs.Paths.{at_start}
 use Rattle.dependences.proofs.Windows.{IsInWindow}
+use Rattle.epoch_paths.proofs.Cores.{fresh}
 
 -- a core is on the path of its epoch: with its own bytes, or, once it has published, with those that are shown
 pub record OnPath (image : LoadedImage) (cores : ℕ) (shown : ℕ → Option ℕ) (c : CoreState) : Type 0 where
@@ -101,28 +101,6 @@ whatever_shown image cores shown shown' c speculative on = record {
 }
 
 -- ---- the loop's start
-
--- nothing of the homefree epoch is published
-pub record IsFresh (image : LoadedImage) (s : FlatState) : Type 0 where
-  pub done : IsInOrder image s.homefree
-  pub long : length (memory_before image s.homefree) ≡ image.size
-  pub same : (a : ℕ) → s.committed a ≡ slice_index (memory_before image s.homefree) a
-
-no_steps : (image : LoadedImage) (h g : HartState) (memory memory' : List ℕ) → after_steps image 0 h memory ≡ Runs g memory' → memory' ≡ memory
-unfolding after_steps
-no_steps image h g memory memory' runs = cc
-
-pub fresh : (image : LoadedImage) (cores : ℕ) (s : FlatState) → Going image cores s → s.published ≡ 0 → IsFresh image s
-fresh image cores s going none =
-    let shown = going.shown in
-    let bytes : memory_before image s.homefree ≡ shown.before = ap (λ (r : SequentialResult). r.bytes) shown.done in
-    let same : shown.memory ≡ shown.before =
-    no_steps image (start_of image s.homefree) shown.hart shown.before shown.memory
-    (sym (ap (λ n. after_steps image n (start_of image s.homefree) shown.before) none) ∙ shown.runs) in record {
-      done = ap (λ (r : SequentialResult). r.end) shown.done;
-      long = ap (λ m. length m) bytes ∙ shown.long;
-      same = λ a. shown.holds.bytes a ∙ ap (λ m. slice_index m a) (same ∙ sym bytes);
-    }
 
 up_to_none : (P : ℕ → Type 0) (d : ℕ) → d ≤ 0 → P 0 → P d
 up_to_none P d most here = let none : 0 ≡ d = omega (arith, most) in subst P none here

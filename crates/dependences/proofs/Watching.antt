@@ -19,15 +19,16 @@ use Rattle.spec_history.specs.Conflict.{line_number}
 use Rattle.dependences.specs.declared.caches.CacheConflict.{CacheConflict}
 use Rattle.dependences.specs.declared.caches.CacheConflict.TheVariants.{Buffer, Line}
 use Rattle.dependences.specs.declared.watch.Watch.{Watch}
-use Rattle.dependences.specs.Conflict.{IsInOrder, first_beside, run_memory}
-use Rattle.dependences.specs.Kept.{CanRun, IsNext, next_runs}
+use Rattle.epoch_paths.specs.InOrder.{IsInOrder}
+use Rattle.dependences.specs.Conflict.{first_beside, run_memory}
+use Rattle.epoch_paths.specs.Kept.{CanRun, IsNext, next_runs}
 use Rattle.dependences.specs.KeptLines.{AreLinesKept, AreStored, IsAllowed, Lines, MeetsLine, MeetsNone}
 use Rattle.dependences.specs.KeptTouches.{AreTouches, AreTouchesKept, IsFound, Touched, after_store, after_touch}
 use Rattle.dependences.specs.KeptWatch.{AreAtHand, InBuffers, InLines, IsWatchKept, IsWatched, IsWatchedUpTo, begun, found_by}
 use Rattle.dependences.proofs.AtHand.{none_at_hand}
 use Rattle.dependences.proofs.Buffering.{buffer_conflict, buffers_kept, buffers_load, buffers_start, buffers_store, touched_long}
 use Rattle.dependences.proofs.Lining.{line_conflict, lines_kept, lines_load, lines_path, lines_start, lines_store, meets_none}
-use Rattle.dependences.proofs.Outside.{next_so}
+use Rattle.epoch_paths.proofs.Outside.{next_so}
 use Rattle.dependences.proofs.Running.{stopped_so}
 
 -- the event of the last hart at which it was right is the stop

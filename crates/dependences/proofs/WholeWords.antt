@@ -11,7 +11,8 @@ use Rattle.dependences.specs.declared.word_stores.Word.{Word}
 use Rattle.dependences.specs.declared.word_stores.Word.TheVariants.{Untouched, Whole, Bytes}
 use Rattle.std.proofs.Math.ListN.{get_or, get_or-map}
 use Rattle.std.proofs.lemmas.List.{get_or-set_same, get_or-set_other, length-map, length-set, map-set}
-use Rattle.dependences.specs.Kept.{IsMarked, IsNearestOf, nearer}
+use Rattle.epoch_paths.specs.Kept.{IsMarked}
+use Rattle.dependences.specs.Kept.{IsNearestOf, nearer}
 use Rattle.dependences.specs.KeptMarks.{filled}
 use Rattle.dependences.specs.KeptStores.{AreMarked, IsNearestByte, Stores, dependence_at}
 use Rattle.dependences.specs.KeptBytes.{no_store, numbers_of, store_at}

@@ -1,6 +1,6 @@
 -- How many epochs run, and so how far apart they are: each that has started and not committed is run by a core of its own, until
 -- one is cancelled.
-use Rattle.std.proofs.Common.{◌≡◌, ◌≢◌, ℕ, zero, suc, ◌+◌, ◌<◌, ◌≤◌, Bool, true, false, cond, is_some, nat_lt, Option, Some, None, refl, sym, ap, ◌∙◌, inl, inr, arith, ltb-true}
+use Rattle.std.proofs.Common.{◌≡◌, ℕ, ◌+◌, ◌<◌, ◌≤◌, is_some, nat_lt, Option, Some, None, refl, sym, ap, ◌∙◌, inl, inr, arith, ltb-true}
 use Rattle.std.proofs.lemmas.Bool.{and_parts, cases_eq}
 use Rattle.rv32_image.specs.Image.{LoadedImage}
 use Rattle.spec_history.specs.declared.entry.What.{What}
@@ -14,35 +14,7 @@ use Rattle.spec_history.proofs.OneEntry.Going.{Going}
 use Rattle.spec_history.proofs.Replay.Replays.{effect-on, effect-idle}
 use Rattle.spec_history.proofs.OneEntry.Entries.{hurt_there}
 use Rattle.spec_history.proofs.Searches.Tests.{count_same}
-
--- ---- counts
-
-most_by : (n : ℕ) (f : ℕ → Bool) (b : Bool) → count_below n f ≤ n → count_below n f + cond b 1 0 ≤ suc n
-most_by n f true most = omega (arith, most)
-most_by n f false most = omega (arith, most)
-
-pub count_most : (n : ℕ) (f : ℕ → Bool) → count_below n f ≤ n
-unfolding count_below
-count_most zero f = omega arith
-count_most (suc n) f = most_by n f (f n) (count_most n f)
-
-pub count_last : (n : ℕ) (f : ℕ → Bool) (b : Bool) → f n ≡ b → count_below (suc n) f ≡ count_below n f + cond b 1 0
-unfolding count_below
-count_last n f b is = ap (λ x. count_below n f + cond x 1 0) is
-
--- one more passes
-pub count_more : (n at : ℕ) (f g : ℕ → Bool) → at < n → ((k : ℕ) → k ≢ at → f k ≡ g k) → f at ≡ false → g at ≡ true → count_below n g ≡ count_below n f + 1
-count_more zero at f g within same fails passes = absurd (omega (arith, within))
-count_more (suc n) at f g within same fails passes = elim (cases_eq n at) [
-  | inl e ↦
-      (let front = count_same n f g (λ k below. same k (omega (arith, below, e))) in
-      let first = count_last n f false (ap f e ∙ fails) in
-      let second = count_last n g true (ap g e ∙ passes) in omega (arith, front, first, second))
-  | inr other ↦
-      (let front = count_more n at f g (omega (arith, within, other)) same fails passes in
-      let first = count_last n f (f n) refl in
-      let second = count_last n g (f n) (sym (same n other)) in omega (arith, front, first, second))
-]
+use Rattle.epoch_paths.proofs.Cores.{count_most, count_more}
 
 -- ---- the epochs that run
 

@@ -2,7 +2,8 @@
 use Rattle.std.proofs.Common.{◌≡◌, ◌≢◌, ◌⊎◌, ℕ, zero, suc, ◌+◌, ◌-◌, ◌<◌, ◌≤◌, ◌==◌, ◌||◌, nat_lt, Bool, true, false, cond, List, length, set, slice_index, Option, Some, None, refl, sym, ap, ◌∙◌, inl, inr, arith, get_or-set_same, get_or-set_other}
 use Rattle.std.proofs.lemmas.Bool.{cases_eq, or_parts}
 use Rattle.std.proofs.lemmas.Bool.Decides.{nat_tests}
-use Rattle.dependences.specs.Kept.{IsLeast, IsMarked, behind, load_behind, nearer}
+use Rattle.epoch_paths.specs.Kept.{IsMarked}
+use Rattle.dependences.specs.Kept.{IsLeast, behind, load_behind, nearer}
 
 -- ---- the least of numbers
 

@@ -8,19 +8,12 @@ use Rattle.rv32_exec.specs.declared.sequential.End.TheVariants.{Done, Exit, Faul
 use Rattle.rv32_image.specs.Image.{LoadedImage}
 use Rattle.rv32_exec.specs.Sequential.{first_epochs}
 use Rattle.spec_history.specs.Conflict.{line_number}
-use Rattle.dependences.specs.Paths.{ReadsOutside, Stores, Touches}
+use Rattle.epoch_paths.specs.Paths.{ReadsOutside, Stores, Touches}
+use Rattle.epoch_paths.specs.InOrder.{memory_before, IsInOrder}
 
 -- the first of the epochs that so many cores can run beside this one
 abbrev pub first_beside : ℕ → ℕ → ℕ
 first_beside cores epoch = epoch - (cores - 1)
-
--- memory as the epochs before this one leave it in order
-abbrev pub memory_before : LoadedImage → ℕ → List ℕ
-memory_before image epoch = (first_epochs image epoch).bytes
-
--- none of the epochs before this one faults or exits
-abbrev pub IsInOrder : LoadedImage → ℕ → Type 0
-IsInOrder image epoch = (first_epochs image epoch).end ≡ Done epoch
 
 -- the memory of an epoch's path: nothing is there yet of the epochs that can run beside it
 abbrev pub path_memory : LoadedImage → ℕ → ℕ → List ℕ

@@ -4,22 +4,7 @@
 use Rattle.std.specs.Prelude.{◌≡◌, ◌⊎◌, ℕ, ◌<◌, ◌≤◌, List, Some, slice_get}
 use Rattle.rv32_image.specs.Image.{LoadedImage}
 use Rattle.dependences.specs.declared.flow.Dependence.{Dependence}
-use Rattle.dependences.specs.Paths.{LoadsAt, StoresAt}
-use Rattle.dependences.specs.Conflict.{IsInOrder, memory_before}
-
--- of the stores of this byte by epochs before this one, that at this step of an earlier epoch is the last
-pub record LastStore (image : LoadedImage) (epoch a earlier stored : ℕ) : Type 0 where
-  pub before : earlier < epoch
-  pub there : StoresAt image earlier (memory_before image earlier) stored a
-  pub last : (d step : ℕ) → d < epoch → StoresAt image d (memory_before image d) step a → (d < earlier) ⊎ ((d ≡ earlier) × (step ≤ stored))
-
--- an epoch that runs in order reads this byte from outside by its load at this step, and this is the last store of it
-pub record DependsAt (image : LoadedImage) (later loaded byte earlier stored : ℕ) : Type 0 where
-  pub within : later < image.epochs
-  pub in_order : IsInOrder image later
-  pub there : LoadsAt image later (memory_before image later) loaded byte
-  pub exposed : (step : ℕ) → step < loaded → StoresAt image later (memory_before image later) step byte → ⊥
-  pub store : LastStore image later byte earlier stored
+use Rattle.epoch_paths.specs.Flow.{DependsAt}
 
 -- of the bytes that the load reads so, it is the one whose last store is of the latest epoch, and the lowest of those
 pub record IsDependence (image : LoadedImage) (x : Dependence) : Type 0 where

@@ -1,13 +1,11 @@
 -- What the code keeps of the run in order: who wrote each byte last, 0 for nobody and else the epoch's number and 1.
-use Rattle.std.specs.Prelude.{◌≡◌, ℕ, zero, suc, ◌+◌, ◌-◌, ◌==◌, ◌||◌, ◌<◌, ◌≤◌, Bool, true, false, not, List, length, Option, Some, None, nat_lt, slice_get, slice_index, if◌then◌else◌}
+use Rattle.std.specs.Prelude.{◌≡◌, ℕ, zero, suc, ◌+◌, ◌-◌, ◌==◌, ◌||◌, ◌<◌, ◌≤◌, Bool, false, List, length, Option, Some, None, nat_lt, slice_get, slice_index, if◌then◌else◌}
 use Rattle.rv32_exec.specs.declared.sequential.End.TheVariants.{Done}
-use Rattle.rv32_exec.specs.declared.stop.Stop.{Stop}
-use Rattle.rv32_exec.specs.declared.stop.Stop.TheVariants.{Load, Store, Ended, Fault}
-use Rattle.rv32_image.specs.Image.{LoadedImage, IsImage}
-use Rattle.rv32_exec.specs.Hart.{HartState}
-use Rattle.rv32_exec.specs.Sequential.{exits, first_epochs}
-use Rattle.dependences.specs.Paths.{ReadsOutside, Stores}
-use Rattle.dependences.specs.Conflict.{ConflictInOrder, IsInOrder, memory_before}
+use Rattle.rv32_image.specs.Image.{LoadedImage}
+use Rattle.rv32_exec.specs.Sequential.{first_epochs}
+use Rattle.epoch_paths.specs.Paths.{ReadsOutside, Stores}
+use Rattle.epoch_paths.specs.InOrder.{memory_before, AreAll}
+use Rattle.dependences.specs.Conflict.{ConflictInOrder}
 use Rattle.dependences.specs.declared.flow.Dependence.{Dependence}
 use Rattle.dependences.specs.Nearest.{Depends, IsNearestLater}
 
@@ -53,12 +51,6 @@ load_behind writers epoch address zero nearest = nearest
 load_behind writers epoch address (suc width) nearest =
     nearer (load_behind writers epoch address width nearest) (behind epoch (slice_index writers (address + width)))
 
--- the bytes of an access have this writer now, and the others theirs
-pub record IsMarked (old new : List ℕ) (address width writer : ℕ) : Type 0 where
-  pub here : (a : ℕ) → address ≤ a → a < address + width → slice_index new a ≡ writer
-  pub below : (a : ℕ) → a < address → slice_index new a ≡ slice_index old a
-  pub past : (a : ℕ) → address + width ≤ a → slice_index new a ≡ slice_index old a
-
 -- two epochs that depend on each other are nearer than there are cores
 abbrev pub is_near : ℕ → Option ℕ → Bool
 is_near cores (Some distance) = nat_lt distance cores
@@ -91,34 +83,10 @@ pub record AreKept (image : LoadedImage) (epoch : ℕ) (writers : List ℕ) (nea
   pub writer : (a : ℕ) → IsLastWriter image epoch a (slice_index writers a)
   pub least : IsLeast (DependsBefore image epoch) nearest
 
--- the epoch is one of the image's, and the memory is as long as the image's
-pub record CanRun (image : LoadedImage) (epoch : ℕ) (memory : List ℕ) : Type 0 where
-  pub limits : IsImage image
-  pub within : epoch < image.epochs
-  pub size : length memory ≡ image.size
-
 -- the epochs before this one are done, and it is kept what they did
 pub record GoesOn (image : LoadedImage) (epoch : ℕ) (memory writers : List ℕ) (nearest : Option ℕ) : Type 0 where
   pub done : first_epochs image epoch ≡ record { end = Done epoch; bytes = memory }
   pub kept : AreKept image epoch writers nearest
-
--- the next epoch runs where one stops so: it ends, and doesn't exit the loop
-abbrev pub next_runs : LoadedImage → HartState → Stop → Bool
-next_runs image h Ended = not (exits image h)
-next_runs image h (Load address width signed rd) = false
-next_runs image h (Store address width value) = false
-next_runs image h (Fault cause pc) = false
-
--- where this epoch runs, it starts over this memory
-abbrev pub IsNext : LoadedImage → ℕ → List ℕ → Bool → Type 0
-IsNext image epoch memory true = first_epochs image epoch ≡ record { end = Done epoch; bytes = memory }
-IsNext image epoch memory false = IsInOrder image epoch → ⊥
-
--- so many epochs run in order, and no other does
-pub record AreAll (image : LoadedImage) (ran : ℕ) : Type 0 where
-  pub most : ran ≤ image.epochs
-  pub each : (epoch : ℕ) → epoch < ran → IsInOrder image epoch
-  pub no_more : (epoch : ℕ) → epoch < image.epochs → IsInOrder image epoch → epoch < ran
 
 -- all epochs that run in order are done, and it is kept what they did
 pub record HaveRun (image : LoadedImage) (ran : ℕ) (writers : List ℕ) (nearest : Option ℕ) : Type 0 where

@@ -3,7 +3,7 @@ use Rattle.std.specs.Prelude.{◌≡◌, ◌≢◌, ◌⊎◌, ℕ, zero, suc, �
 use Rattle.memory_bytes.specs.Bytes.{IsWidth}
 use Rattle.rv32_image.specs.Image.{LoadedImage}
 use Rattle.spec_history.specs.Conflict.{line_number, line_count}
-use Rattle.dependences.specs.Paths.{ReadsOutside}
+use Rattle.epoch_paths.specs.Paths.{ReadsOutside}
 use Rattle.dependences.specs.Conflict.{StoresIn, first_beside, run_memory}
 use Rattle.dependences.specs.KeptOwn.{AreLong, AreOwned, HasStored, OwnBytes}
 

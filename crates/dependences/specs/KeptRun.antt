@@ -1,29 +1,21 @@
 -- What the code keeps of an epoch while it runs in order.
 use Rattle.std.specs.Prelude.{◌≡◌, ℕ, ◌+◌, ◌<◌, ◌≤◌, Bool, true, false, List, length, Option, Some, None, slice_index}
-use Rattle.memory_bytes.specs.Maps.{over}
 use Rattle.rv32_image.specs.Image.{LoadedImage, IsImage}
-use Rattle.rv32_exec.specs.Hart.{HartState, start_of}
+use Rattle.rv32_exec.specs.Hart.{HartState}
 use Rattle.rv32_exec.specs.NextEvent.{next_event}
 use Rattle.rv32_exec.specs.declared.sequential.End.TheVariants.{Done}
-use Rattle.rv32_exec.specs.Sequential.{Runs, after_steps, first_epochs}
-use Rattle.spec_history.specs.Laws.{Holds}
+use Rattle.rv32_exec.specs.Sequential.{first_epochs}
 use Rattle.dependences.specs.declared.flow.Dependence.{Dependence}
 use Rattle.dependences.specs.declared.flow.Flow.{Flow}
-use Rattle.dependences.specs.Paths.{StoresAt}
-use Rattle.dependences.specs.Conflict.{IsInOrder, memory_before}
+use Rattle.epoch_paths.specs.Paths.{StoresAt}
+use Rattle.epoch_paths.specs.InOrder.{IsInOrder, memory_before, AreAll}
 use Rattle.dependences.specs.Nearest.{Depends, IsNearest, IsNearestLater}
 use Rattle.dependences.specs.Flow.{AreDependences}
-use Rattle.dependences.specs.Lengths.{AreLengths, Lasts}
-use Rattle.dependences.specs.Kept.{AreAll, AreKept, DependsBefore, IsLastWriter, IsLeast, IsNearestOf}
+use Rattle.epoch_paths.specs.Lengths.{Lasts}
+use Rattle.dependences.specs.Lengths.{AreLengths}
+use Rattle.dependences.specs.Kept.{AreKept, DependsBefore, IsLastWriter, IsLeast, IsNearestOf}
 use Rattle.dependences.specs.KeptStores.{AreBefore, AreLong, AreStoresKept, IsNearestByte, IsStoredLast, Stores, nearest_after, noted_at}
-
--- the epoch is on its path over this memory: it has come to this hart, and these are the bytes that it has stored
-pub record IsAt (image : LoadedImage) (epoch : ℕ) (memory : List ℕ) (h : HartState) (own : ℕ → Option ℕ) : Type 0 where
-  pub after : List ℕ
-  pub runs : after_steps image h.done (start_of image epoch) memory ≡ Runs h after
-  pub holds : Holds image (over own (λ a. slice_index memory a)) after
-  pub early : (a byte : ℕ) → own a ≡ Some byte → (step : ℕ) × (step < h.done) × StoresAt image epoch memory step a
-  pub no_others : (a step : ℕ) → own a ≡ None → step < h.done → StoresAt image epoch memory step a → ⊥
+use Rattle.epoch_paths.specs.Kept.{IsAt}
 
 -- an epoch before this one depends on another this far before it, or this one does, by what it has loaded so far
 pub data DependsUpTo (image : LoadedImage) (epoch done distance : ℕ) : Type 0 where

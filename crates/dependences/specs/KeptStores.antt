@@ -3,10 +3,12 @@ use Rattle.std.specs.Prelude.{◌≡◌, ◌⊎◌, ℕ, zero, suc, ◌+◌, ◌
 use Rattle.rv32_image.specs.Image.{LoadedImage}
 use Rattle.rv32_exec.specs.Hart.{HartState}
 use Rattle.dependences.specs.declared.flow.Dependence.{Dependence}
-use Rattle.dependences.specs.Paths.{StoresAt}
-use Rattle.dependences.specs.Conflict.{memory_before}
-use Rattle.dependences.specs.Kept.{IsMarked, nearer}
-use Rattle.dependences.specs.Flow.{DependsAt, IsBefore, IsDependence, LastStore}
+use Rattle.epoch_paths.specs.Paths.{StoresAt}
+use Rattle.epoch_paths.specs.InOrder.{memory_before}
+use Rattle.epoch_paths.specs.Kept.{IsMarked}
+use Rattle.dependences.specs.Kept.{nearer}
+use Rattle.epoch_paths.specs.Flow.{DependsAt, LastStore}
+use Rattle.dependences.specs.Flow.{IsBefore, IsDependence}
 
 -- of each byte: the epoch of its last store and 1, or 0 for none; the instructions done there; and its pc
 pub record Stores : Type 0 where

@@ -7,13 +7,14 @@ use Rattle.spec_history.specs.Conflict.{line_count, line_number}
 use Rattle.dependences.specs.declared.caches.CacheConflict.{CacheConflict}
 use Rattle.dependences.specs.declared.caches.CacheConflict.TheVariants.{Buffer, Line}
 use Rattle.dependences.specs.declared.watch.Watch.{Watch}
-use Rattle.dependences.specs.Paths.{LoadsAt, ReadsOutside, StoresAt}
-use Rattle.dependences.specs.Conflict.{IsInOrder, first_beside, run_memory}
+use Rattle.epoch_paths.specs.Paths.{LoadsAt, ReadsOutside, StoresAt}
+use Rattle.epoch_paths.specs.InOrder.{IsInOrder}
+use Rattle.dependences.specs.Conflict.{first_beside, run_memory}
 use Rattle.dependences.specs.Shared.{TouchesIn}
 use Rattle.dependences.specs.KeptOwn.{AreLong, HasStored}
 use Rattle.dependences.specs.KeptLines.{AreLines, AreLinesKept, IsLastOf, Lines, StoresInLine, other_before}
 use Rattle.dependences.specs.KeptTouches.{AreShares, AreTouches, AreTouchesKept, IsFound, StoresBefore, Touched, TouchesBefore}
-use Rattle.dependences.specs.KeptRun.{IsAt}
+use Rattle.epoch_paths.specs.Kept.{IsAt}
 
 -- ---- who stored in lines
 

@@ -1,9 +1,7 @@
--- Definitions to believe: Paths (an epoch alone, what it stores, and what it reads from outside), Conflict (what can roll back
--- at all), Shared (buffers that are too small for lines that others touch), Laws (what the laws take, and what they say), Nearest
--- (how near epochs depend on each other in order), Flow (the loads that depend on earlier epochs), Pairs (the instructions that these
--- join), Stored (where epochs store), Lengths (how many instructions epochs execute) and
--- OverCaches (what one run shows of all these).
-pub mod Paths
+-- Definitions to believe: Conflict (what can roll back at all), Shared (buffers that are too small for lines that others touch), Laws
+-- (what the laws take, and what they say), Nearest (how near epochs depend on each other in order), Flow (the loads that depend on
+-- earlier epochs), Pairs (the instructions that these join), Lengths (how many instructions epochs execute) and OverCaches (what one
+-- run shows of all these).
 pub mod Conflict
 pub mod Shared
 pub mod Laws
@@ -11,7 +9,6 @@ pub mod Nearest
 pub mod Flow
 pub mod Pairs
 pub mod Summed
-pub mod Stored
 pub mod Lengths
 pub mod OverCaches
 -- What the code keeps.
@@ -27,4 +24,3 @@ pub mod KeptOwn
 pub mod KeptLines
 pub mod KeptTouches
 pub mod KeptWatch
-pub mod KeptPieces

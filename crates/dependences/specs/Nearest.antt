@@ -3,8 +3,8 @@
 use Rattle.std.specs.Prelude.{◌≡◌, ℕ, ◌+◌, ◌-◌, ◌<◌, ◌≤◌, List, Option, Some, None, slice_get}
 use Rattle.rv32_image.specs.Image.{LoadedImage}
 use Rattle.dependences.specs.declared.flow.Dependence.{Dependence}
-use Rattle.dependences.specs.Paths.{ReadsOutside, Stores}
-use Rattle.dependences.specs.Conflict.{IsInOrder, memory_before}
+use Rattle.epoch_paths.specs.Paths.{ReadsOutside, Stores}
+use Rattle.epoch_paths.specs.InOrder.{IsInOrder, memory_before}
 
 -- both run in order, and there the later epoch reads from outside a byte that the earlier one stores
 pub record Depends (image : LoadedImage) (earlier later : ℕ) : Type 0 where

@@ -4,7 +4,7 @@
 use Rattle.std.specs.Prelude.{◌≡◌, ◌≢◌, ◌⊎◌, ℕ, ◌≤◌, List, length, All}
 use Rattle.rv32_image.specs.Image.{LoadedImage}
 use Rattle.spec_history.specs.Conflict.{line_number}
-use Rattle.dependences.specs.Paths.{Touches}
+use Rattle.epoch_paths.specs.Paths.{Touches}
 use Rattle.dependences.specs.Conflict.{AreBeside, AreFalling, LineConflict, StoresIn, path_memory, run_memory}
 
 -- the epoch loads or stores in this line

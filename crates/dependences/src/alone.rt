@@ -2,7 +2,8 @@ ghost use Rattle.std.specs.Prelude.{◌≡◌, ℕ, ◌+◌, ◌<◌, ◌≤◌,
 ghost use Rattle.rv32_image.specs.Image.{IsImage};
 ghost use Rattle.rv32_exec.specs.declared.sequential.End.TheVariants.{Done};
 ghost use Rattle.rv32_exec.specs.Sequential.{first_epochs};
-ghost use Rattle.dependences.specs.Conflict.{IsInOrder};
+ghost use Rattle.epoch_paths.specs.InOrder.{IsInOrder};
+ghost use Rattle.epoch_paths.specs.Kept.{CanRun};
 ghost use Rattle.dependences.specs.Kept as spec;
 
 use crate::nearest::mark;
@@ -28,7 +29,7 @@ pub(crate) fn run_between(image: &Image, from: u32, to: u32, memory: &mut [u8])
 
 /// Runs one epoch over memory, which neither faults nor exits.
 fn run_one(image: &Image, epoch: u32, memory: &mut [u8])
-    requires run { spec.CanRun image.now epoch memory.old }
+    requires run { CanRun image.now epoch memory.old }
     requires before { first_epochs image.now epoch ≡ record { end = Done epoch; bytes = memory.old } }
     requires order { IsInOrder image.now (epoch + 1) }
     ensures size { length memory.new ≡ image.now.size }
@@ -59,7 +60,7 @@ pub(crate) fn meets_writer(
     memory: &mut [u8],
     writers: &mut [u32],
 ) -> bool
-    requires run { spec.CanRun image.now epoch memory.old }
+    requires run { CanRun image.now epoch memory.old }
     requires long { length writers.old ≡ image.now.size }
     ensures found { result ≡ true → spec.MeetsWriter image.now epoch memory.old writers.old first }
     ensures none { result ≡ false → spec.MeetsWriter image.now epoch memory.old writers.old first → ⊥ }

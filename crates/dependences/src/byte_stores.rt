@@ -4,7 +4,7 @@ ghost use Rattle.dependences.specs.KeptStores as spec;
 ghost use Rattle.dependences.specs.KeptBytes.{store_at};
 ghost use Rattle.dependences.specs.KeptLast.{IsLast};
 
-use crate::epoch::Epoch;
+use epoch_paths::Epoch;
 use rv32_exec::NoMemory;
 use std::alloc::Global;
 use std::marker::Model;

@@ -1,10 +1,11 @@
 ghost use Rattle.std.specs.Prelude.{◌≡◌, ℕ, ◌+◌, ◌<◌, ◌≤◌, IfOk, None, [], ◌∷◌, length};
 ghost use Rattle.rv32_exec.specs.declared.sequential.End.TheVariants.{Done};
 ghost use Rattle.rv32_exec.specs.Sequential.{first_epochs};
-ghost use Rattle.dependences.specs.Conflict.{IsInOrder, Overflow, first_beside, run_memory};
+ghost use Rattle.epoch_paths.specs.InOrder.{IsInOrder, AreAll};
+ghost use Rattle.dependences.specs.Conflict.{Overflow, first_beside, run_memory};
 ghost use Rattle.dependences.specs.Shared.{AreApart};
 ghost use Rattle.dependences.specs.Laws.{NeverOverLines};
-ghost use Rattle.dependences.specs.Kept.{AreAll, CanRun, IsNext};
+ghost use Rattle.epoch_paths.specs.Kept.{CanRun, IsNext};
 ghost use Rattle.dependences.specs.KeptLines.{MeetsNone};
 ghost use Rattle.dependences.specs.KeptTouches as spec;
 ghost use Rattle.dependences.specs.KeptWatch.{IsWatchKept};

@@ -1,5 +1,6 @@
 ghost use Rattle.std.specs.Prelude.{◌≡◌, ◌<◌, ◌≤◌, ℕ, IfOk, IfSome, None, true, false, length, slice_index};
 ghost use Rattle.rv32_image.specs.Image.{IsImage};
+ghost use Rattle.epoch_paths.specs.InOrder.{AreAll};
 ghost use Rattle.dependences.specs.Conflict.{Conflict, ConflictInOrder};
 ghost use Rattle.dependences.specs.Kept as spec;
 ghost use Rattle.dependences.specs.Laws.{NeverOverBytes};
@@ -44,7 +45,7 @@ pub fn conflicts_over_bytes(alloc: Global, image: &Image, cores: u32) -> Result<
 /// and the nearest that depend on each other are so far apart. None: on none of these cores any do, and no schedule has a violation.
 pub fn least_conflict_over_bytes(image: &Image, nearest: Option<u32>, cores: u32) -> Option<u32>
     requires limits { IsImage image.now }
-    requires all { spec.AreAll image.now image.now.epochs }
+    requires all { AreAll image.now image.now.epochs }
     requires nearest { IsNearest image.now nearest }
     ensures found { IfSome result (λ least. (2 ≤ least) × (least ≤ cores) × ConflictInOrder image.now least) }
     ensures fewer { IfSome result (λ least. (fewer : ℕ) → fewer < least → NeverOverBytes image.now fewer) }
@@ -74,7 +75,7 @@ fn conflicts_past_end(
     ran: u32,
     writers: &[u32],
 ) -> Result<bool, NoMemory>
-    requires all { spec.AreAll image.now ran }
+    requires all { AreAll image.now ran }
     requires long { length writers.now ≡ image.now.size }
     requires writer { (a : ℕ) → spec.IsLastWriter image.now ran a (slice_index writers.now a) }
     requires before { spec.ConflictsBefore image.now cores ran → ⊥ }
@@ -106,7 +107,7 @@ fn search(
     alone: &mut [u8],
     marks: &mut [u32],
 ) -> bool
-    requires all { spec.AreAll image.now ran }
+    requires all { AreAll image.now ran }
     requires long { length writers.now ≡ image.now.size }
     requires writer { (a : ℕ) → spec.IsLastWriter image.now ran a (slice_index writers.now a) }
     requires before { spec.ConflictsBefore image.now cores ran → ⊥ }

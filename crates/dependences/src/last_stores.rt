@@ -6,9 +6,9 @@ ghost use Rattle.dependences.specs.KeptWords.{AreSpread, AreWords, IsBy, word_at
 ghost use Rattle.dependences.specs.KeptLast.{AreLast, IsLast, dependence_by};
 
 use crate::byte_stores::{ByteStores, NO_STORE, StoredBy};
-use crate::epoch::Epoch;
 use crate::flow::Dependence;
 use crate::word_stores::{Word, WordStores};
+use epoch_paths::Epoch;
 use rv32_exec::NoMemory;
 use std::alloc::Global;
 use std::marker::Model;

@@ -4,9 +4,9 @@ ghost use Rattle.spec_history.specs.Conflict.{line_count, line_number};
 ghost use Rattle.dependences.specs.KeptOwn.{AreLong};
 ghost use Rattle.dependences.specs.KeptLines as spec;
 
-use crate::epoch::Epoch;
 use crate::last_two::LastTwo;
 use crate::own_bytes::OwnBytes;
+use epoch_paths::Epoch;
 use rv32_exec::NoMemory;
 use rv32_image::Image;
 use std::alloc::Global;

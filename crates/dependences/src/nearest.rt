@@ -1,11 +1,12 @@
 ghost use Rattle.std.specs.Prelude.{◌≡◌, ℕ, ◌+◌, ◌<◌, ◌≤◌, ◌^◌, IfOk, true, false, length, slice_index};
 ghost use Rattle.rv32_exec.specs.declared.sequential.End.TheVariants.{Done};
 ghost use Rattle.rv32_exec.specs.Sequential.{first_epochs};
-ghost use Rattle.dependences.specs.Conflict.{IsInOrder};
+ghost use Rattle.epoch_paths.specs.InOrder.{IsInOrder};
+ghost use Rattle.epoch_paths.specs.Kept.{IsMarked, CanRun};
 ghost use Rattle.dependences.specs.Nearest.{IsNearest};
 ghost use Rattle.dependences.specs.Kept as spec;
 
-use crate::epoch::Epoch;
+use epoch_paths::Epoch;
 use memory_bytes::{read_number, write_number};
 use rv32_exec::{NoMemory, Stop, advance, loaded, start, stored};
 use rv32_image::Image;
@@ -71,7 +72,7 @@ fn follow(
     writers: &mut [u32],
     nearest: Option<u32>,
 ) -> Followed
-    requires run { spec.CanRun image.now epoch memory.old }
+    requires run { CanRun image.now epoch memory.old }
     requires before { first_epochs image.now epoch ≡ record { end = Done epoch; bytes = memory.old } }
     requires kept { spec.AreKept image.now epoch writers.old nearest }
     ensures kept { spec.AreKept image.now (epoch + 1) writers.new result.nearest }
@@ -157,7 +158,7 @@ pub(crate) fn mark(writers: &mut [u32], addr: u32, width: u32, writer: u32)
     requires small { length writers.old < 2 ^ 32 }
     requires within { addr + width ≤ length writers.old }
     ensures long { length writers.new ≡ length writers.old }
-    ensures marked { spec.IsMarked writers.old writers.new addr width writer }
+    ensures marked { IsMarked writers.old writers.new addr width writer }
 {
     // With a width that it knows LLVM writes a word's numbers at once.
     match width {
@@ -172,7 +173,7 @@ fn mark_each(writers: &mut [u32], addr: u32, width: u32, writer: u32)
     requires small { length writers.old < 2 ^ 32 }
     requires within { addr + width ≤ length writers.old }
     ensures long { length writers.new ≡ length writers.old }
-    ensures marked { spec.IsMarked writers.old writers.new addr width writer }
+    ensures marked { IsMarked writers.old writers.new addr width writer }
 {
     // Beside a place that is no sum of two numbers of 32 bits LLVM knows that the numbers of a word follow one another.
     let from = addr as usize;

@@ -3,8 +3,8 @@ ghost use Rattle.std.specs.Prelude.{◌≡◌, ℕ, ◌+◌, ◌-◌, ◌%◌, �
 ghost use Rattle.memory_bytes.specs.Bytes.{IsWidth};
 ghost use Rattle.dependences.specs.KeptOwn as spec;
 
-use crate::epoch::Epoch;
 use crate::marks::Marks;
+use epoch_paths::Epoch;
 use rv32_exec::NoMemory;
 use std::alloc::Global;
 use std::marker::Model;

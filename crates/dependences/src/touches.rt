@@ -3,9 +3,9 @@ ghost use Rattle.spec_history.specs.Conflict.{line_count};
 ghost use Rattle.dependences.specs.KeptTouches as spec;
 
 use crate::beside::first_beside;
-use crate::epoch::Epoch;
-use crate::last_two::{LastTwo, line_of};
+use crate::last_two::LastTwo;
 use crate::marks::Marks;
+use epoch_paths::{Epoch, line_of};
 use rv32_exec::NoMemory;
 use rv32_image::Image;
 use std::alloc::Global;

@@ -4,10 +4,9 @@ ghost use Rattle.dependences.specs.KeptWatch as spec;
 
 use crate::beside::first_beside;
 use crate::caches::CacheConflict;
-use crate::epoch::Epoch;
-use crate::last_two::line_of;
 use crate::lines::Lines;
 use crate::touches::Touches;
+use epoch_paths::{Epoch, line_of};
 use rv32_exec::{NoMemory, Notes};
 use rv32_image::Image;
 use std::alloc::Global;

@@ -1,7 +1,7 @@
 //! From how many cores on epochs conflict.
 ghost use Rattle.std.specs.Prelude.{◌≡◌, ◌≤◌, ℕ, IfNone, IfOk, IfSome, Some};
 ghost use Rattle.rv32_image.specs.Image.{IsImage};
-ghost use Rattle.dependences.specs.Kept.{AreAll};
+ghost use Rattle.epoch_paths.specs.InOrder.{AreAll};
 ghost use Rattle.dependences.specs.KeptTouches.{IsFound};
 ghost use Rattle.dependences.specs.Nearest.{IsNearest};
 ghost use Rattle.depends.specs.Never as spec;

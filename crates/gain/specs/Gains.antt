@@ -21,7 +21,7 @@ use Rattle.turn_costs.specs.Prices.{bus_prices, no_prices}
 use Rattle.even_speed.specs.declared.terms.Terms.{Terms}
 use Rattle.even_speed.specs.Held.{Holding, loads_at}
 use Rattle.even_speed.specs.Holds.{holding_of}
-use Rattle.dependences.specs.declared.pieces.Pieces.{Pieces}
+use Rattle.epoch_paths.specs.declared.pieces.Pieces.{Pieces}
 use Rattle.all_schedules.specs.Holding.{WaitsInOrder, none_waits}
 use Rattle.replay_command.specs.Stores.{HasRefused, RunsOnAll, on_store, pieces_of}
 use Rattle.gain.specs.declared.gains.Study.{Study}

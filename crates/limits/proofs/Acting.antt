@@ -25,8 +25,7 @@ use Rattle.spec_history.proofs.OneEntry.Going.{Going}
 use Rattle.spec_history.proofs.OneEntry.Keeping.{with_core_other, with_core_same}
 use Rattle.spec_history.proofs.Replay.Joining.{history_goes_on, no_entry}
 use Rattle.spec_history.proofs.Replay.Replays.{replayed}
-use Rattle.violations.specs.View.{IsSettled, StoreView}
-use Rattle.violations.specs.View.{is_accessed}
+use Rattle.violations.specs.View.{IsSettled, StoreView, is_accessed}
 use Rattle.violations.specs.Rule.{Begins, Ends, Guards, HurtsLater, Loads, LoadsStraight, Stores, StoresStraight}
 use Rattle.violations.proofs.Accesses.{stored_there}
 use Rattle.homefree.specs.Agrees.{Agrees, AgreesCore}
@@ -38,7 +37,7 @@ use Rattle.homefree.proofs.State.Arms.{Comes, loaded_state, loaded_straight, sto
 use Rattle.homefree.proofs.State.Ends as ending
 use Rattle.homefree.proofs.State.HurtsReplay.{CanBeHurt, hurts_replay, still_runs}
 use Rattle.homefree.proofs.State.Others.{IsOfSameKind, can_be_hurt_all}
-use Rattle.dependences.specs.Conflict.{memory_before}
+use Rattle.epoch_paths.specs.InOrder.{memory_before}
 use Rattle.limits.specs.declared.limit.Waits.{Waits}
 use Rattle.limits.specs.declared.limit.Waits.TheVariants.{Store}
 use Rattle.limits.proofs.Marks.{IsDone, IsPath, IsTimed, IsTimedIn, IsUnder, Marks}

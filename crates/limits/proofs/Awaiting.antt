@@ -10,12 +10,12 @@ use Rattle.rv32_exec.specs.Execute.{Effect, Executes, Stops, hart_effect}
 use Rattle.rv32_exec.specs.NextEvent.{next_event}
 use Rattle.rv32_exec.specs.Sequential.{Ends, Faults, Progress, Runs, after_steps}
 use Rattle.spec_history.proofs.OneEntry.Legal.{some_below}
-use Rattle.dependences.specs.Conflict.{IsInOrder, memory_before}
-use Rattle.dependences.specs.Flow.{DependsAt, LastStore}
-use Rattle.dependences.specs.Paths.{StoresAt}
-use Rattle.dependences.proofs.InOrder.{all_in_order}
-use Rattle.dependences.specs.KeptRun.{IsAt}
-use Rattle.dependences.proofs.Paths.{before_event, loads_there}
+use Rattle.epoch_paths.specs.InOrder.{IsInOrder, memory_before}
+use Rattle.epoch_paths.specs.Flow.{DependsAt, LastStore}
+use Rattle.epoch_paths.specs.Paths.{StoresAt}
+use Rattle.epoch_paths.proofs.InOrder.{all_in_order}
+use Rattle.epoch_paths.specs.Kept.{IsAt}
+use Rattle.epoch_paths.proofs.Paths.{before_event, loads_there}
 use Rattle.even_speed.specs.Held.{Holding, is_held, is_stored, reads_stored, waits_by}
 use Rattle.limits.specs.HeldBound.{HoldsInOrder}
 use Rattle.limits.proofs.Stopping.{before_end, lasts_some}

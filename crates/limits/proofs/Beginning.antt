@@ -9,8 +9,8 @@ use Rattle.spec_history.specs.FlatState.{CoreState, FlatState, begun, first_stat
 use Rattle.spec_history.specs.Effect.{with_core}
 use Rattle.spec_history.specs.Laws.{IsKept}
 use Rattle.spec_history.proofs.OneEntry.Keeping.{at_core, with_core_other, with_core_same}
-use Rattle.dependences.specs.Conflict.{memory_before}
-use Rattle.dependences.proofs.Paths.{at_start}
+use Rattle.epoch_paths.specs.InOrder.{memory_before}
+use Rattle.epoch_paths.proofs.Paths.{at_start}
 use Rattle.limits.specs.declared.limit.Waits.{Waits}
 use Rattle.limits.proofs.Marks.{IsOn, IsOwned, IsTimed, IsTimedIn, IsUnder, Marks}
 use Rattle.limits.proofs.Marking.{Alters, done_still, goes, not_none, some_same, under_still}

@@ -28,7 +28,7 @@ use Rattle.homefree.specs.InStep.{InStep}
 use Rattle.homefree.specs.Turned.{Acting, Turned, turn_at}
 use Rattle.homefree.specs.Turned as turn
 use Rattle.homefree.proofs.State.Others.{same_at}
-use Rattle.dependences.specs.Kept.{AreAll}
+use Rattle.epoch_paths.specs.InOrder.{AreAll}
 use Rattle.even_speed.specs.declared.clock.Clock.{Clock}
 use Rattle.even_speed.specs.declared.clock.Next.{Next}
 use Rattle.even_speed.specs.declared.clock.Next.TheVariants.{Due, Waits, Gone}

@@ -5,7 +5,7 @@ use Rattle.std.proofs.lemmas.Bool.Decides.{nat_tests}
 use Rattle.rv32_image.specs.Image.{LoadedImage}
 use Rattle.spec_history.specs.FlatState.{CoreState}
 use Rattle.spec_history.specs.Laws.{HasBytes}
-use Rattle.dependences.specs.Conflict.{memory_before}
+use Rattle.epoch_paths.specs.InOrder.{memory_before}
 use Rattle.limits.specs.declared.limit.Waits.{Waits}
 use Rattle.limits.specs.Limits.{Timing}
 use Rattle.limits.proofs.Marks.{IsPath, IsUnder, Marks}

@@ -4,8 +4,8 @@ use Rattle.std.proofs.lemmas.Bool.{cases_lt}
 use Rattle.std.proofs.lemmas.Bool.Decides.{nat_tests}
 use Rattle.std.proofs.lemmas.List.{get_or_append_left, get_or_push}
 use Rattle.rv32_image.specs.Image.{LoadedImage}
-use Rattle.dependences.specs.Lengths.{Lasts}
-use Rattle.dependences.specs.Flow.{DependsAt}
+use Rattle.epoch_paths.specs.Lengths.{Lasts}
+use Rattle.epoch_paths.specs.Flow.{DependsAt}
 use Rattle.limits.specs.declared.limit.Waits.{Waits}
 use Rattle.limits.specs.declared.limit.Waits.TheVariants.{Commit, Store}
 use Rattle.limits.specs.Limits.{Timing, awaited}

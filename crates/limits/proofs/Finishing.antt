@@ -10,11 +10,9 @@ use Rattle.rv32_exec.specs.Sequential.{SequentialResult, after_stop, exits, firs
 use Rattle.rv32_exec.specs.Laws.{HasStopped}
 use Rattle.spec_history.specs.FlatState.{CoreState, FlatState}
 use Rattle.spec_history.proofs.OneEntry.Going.{Going}
-use Rattle.dependences.specs.Conflict.{IsInOrder, memory_before}
-use Rattle.dependences.specs.Kept.{AreAll}
-use Rattle.dependences.proofs.Ending.{all_by_last}
-use Rattle.dependences.proofs.InOrder.{all_in_order as all_epochs}
-use Rattle.dependences.proofs.Outside.{OnPath, done_before, no_exit, no_fault}
+use Rattle.epoch_paths.specs.InOrder.{IsInOrder, memory_before, AreAll}
+use Rattle.epoch_paths.proofs.InOrder.{all_by_last, all_in_order as all_epochs}
+use Rattle.epoch_paths.proofs.Outside.{OnPath, done_before, no_exit, no_fault}
 use Rattle.limits.specs.declared.limit.Waits.{Waits}
 use Rattle.limits.specs.Limits.{IsLimit, IsTiming, Timing, steps_of}
 use Rattle.limits.proofs.Stopping.{lasts_once}

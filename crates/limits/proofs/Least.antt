@@ -2,8 +2,8 @@
 use Rattle.std.proofs.Common.{◌≡◌, ℕ, zero, suc, ◌+◌, ◌-◌, ◌*◌, ◌<◌, ◌≤◌, List, length, slice_index, refl, sym, ap, subst, ◌∙◌, inl, inr, arith}
 use Rattle.std.proofs.lemmas.Bool.{cases_lt}
 use Rattle.rv32_image.specs.Image.{LoadedImage}
-use Rattle.dependences.specs.Kept.{AreAll}
-use Rattle.dependences.specs.Lengths.{Lasts}
+use Rattle.epoch_paths.specs.InOrder.{AreAll}
+use Rattle.epoch_paths.specs.Lengths.{Lasts}
 use Rattle.limits.specs.declared.limit.Waits.{Waits}
 use Rattle.limits.specs.declared.limit.Waits.TheVariants.{Commit, Store}
 use Rattle.limits.specs.Limits.{IsLimit, IsTiming, Timing, awaited, steps_of}

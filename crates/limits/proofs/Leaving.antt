@@ -13,14 +13,13 @@ use Rattle.spec_history.specs.Effect.{with_core}
 use Rattle.spec_history.specs.Laws.{HasBytes}
 use Rattle.spec_history.proofs.OneEntry.Going.{Going}
 use Rattle.spec_history.proofs.OneEntry.Keeping.{at_core, with_core_other}
-use Rattle.dependences.specs.Conflict.{memory_before}
-use Rattle.dependences.specs.Flow.{DependsAt}
-use Rattle.dependences.specs.Lengths.{Lasts}
-use Rattle.dependences.specs.Paths.{ReadsOutside, StoresAt}
-use Rattle.dependences.proofs.Accessing.{others_not}
-use Rattle.dependences.proofs.Following.{all_loaded, all_stored_early}
-use Rattle.dependences.proofs.Outside.{lasts}
-use Rattle.dependences.proofs.Starting.{fresh}
+use Rattle.epoch_paths.specs.InOrder.{memory_before}
+use Rattle.epoch_paths.specs.Flow.{DependsAt}
+use Rattle.epoch_paths.specs.Lengths.{Lasts}
+use Rattle.epoch_paths.specs.Paths.{ReadsOutside, StoresAt}
+use Rattle.epoch_paths.proofs.Cores.{others_not, fresh}
+use Rattle.epoch_paths.proofs.Following.{all_loaded, all_stored_early}
+use Rattle.epoch_paths.proofs.Outside.{lasts}
 use Rattle.limits.specs.declared.limit.Waits.{Waits}
 use Rattle.limits.specs.declared.limit.Waits.TheVariants.{Commit, Store}
 use Rattle.limits.specs.Limits.{Timing, awaited}

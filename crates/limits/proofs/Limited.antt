@@ -9,7 +9,7 @@ use Rattle.violations.specs.View.{StoreView, Waits as StoreWaits}
 use Rattle.violations.specs.Calls.{Call}
 use Rattle.homefree.specs.declared.answer.Answer.TheVariants.{Go, Again, Left}
 use Rattle.homefree.specs.Driven.{Driver}
-use Rattle.dependences.specs.Kept.{AreAll}
+use Rattle.epoch_paths.specs.InOrder.{AreAll}
 use Rattle.even_speed.specs.declared.clock.Next.{Next}
 use Rattle.even_speed.specs.declared.clock.Next.TheVariants.{Due}
 use Rattle.even_speed.specs.declared.clocks.Turn.{Turn}

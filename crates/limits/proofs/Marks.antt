@@ -3,11 +3,11 @@ use Rattle.std.proofs.Common.{◌≡◌, ◌⊎◌, ℕ, ◌+◌, ◌<◌, ◌�
 use Rattle.rv32_image.specs.Image.{LoadedImage}
 use Rattle.spec_history.specs.FlatState.{CoreState, FlatState}
 use Rattle.spec_history.specs.Laws.{HasBytes}
-use Rattle.dependences.specs.Paths.{ReadsOutside, StoresAt}
-use Rattle.dependences.specs.Conflict.{memory_before}
-use Rattle.dependences.specs.Flow.{DependsAt}
-use Rattle.dependences.specs.Lengths.{Lasts}
-use Rattle.dependences.specs.KeptRun.{IsAt}
+use Rattle.epoch_paths.specs.Paths.{ReadsOutside, StoresAt}
+use Rattle.epoch_paths.specs.InOrder.{memory_before}
+use Rattle.epoch_paths.specs.Flow.{DependsAt}
+use Rattle.epoch_paths.specs.Lengths.{Lasts}
+use Rattle.epoch_paths.specs.Kept.{IsAt}
 use Rattle.limits.specs.declared.limit.Waits.{Waits}
 use Rattle.limits.specs.declared.limit.Waits.TheVariants.{Store}
 use Rattle.limits.specs.Limits.{Timing, awaited}

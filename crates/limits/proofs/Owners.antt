@@ -5,7 +5,7 @@ use Rattle.std.proofs.lemmas.Option.{same_Some}
 use Rattle.rv32_image.specs.Image.{LoadedImage}
 use Rattle.spec_history.specs.FlatState.{FlatState}
 use Rattle.spec_history.specs.Searches.{count_below}
-use Rattle.dependences.proofs.Windows.{count_more, count_most}
+use Rattle.epoch_paths.proofs.Cores.{count_more, count_most}
 use Rattle.limits.specs.declared.limit.Waits.{Waits}
 use Rattle.limits.proofs.Marks.{IsOwned, IsTimedIn, Marks}
 

@@ -4,7 +4,7 @@ use Rattle.std.proofs.lemmas.Bool.{cases_Bool, cases_lt, cond-false, cond-true}
 use Rattle.rv32_exec.specs.declared.stop.Stop.TheVariants as stop
 use Rattle.memory_bytes.specs.Bytes.{number_at}
 use Rattle.memory_bytes.specs.Maps.{first_of, joined, nothing, over, read_outside, stored}
-use Rattle.memory_bytes.proofs.Bytes.{number_at_same}
+use Rattle.memory_bytes.proofs.Bytes.{number_at_same, stored_within}
 use Rattle.rv32_image.specs.Image.{LoadedImage}
 use Rattle.rv32_exec.specs.Hart.{HartState, start_of, stepped}
 use Rattle.rv32_exec.specs.Execute.{Stops, hart_effect}
@@ -17,13 +17,12 @@ use Rattle.spec_history.specs.Laws.{HasBytes}
 use Rattle.spec_history.proofs.OneEntry.Accesses.{load_counts}
 use Rattle.spec_history.proofs.OneEntry.Going.{Going, homefree_run}
 use Rattle.spec_history.proofs.OneEntry.Keeping.{noted}
-use Rattle.dependences.specs.Conflict.{memory_before}
-use Rattle.dependences.specs.Paths.{StoresAt}
-use Rattle.dependences.specs.KeptRun.{IsAt}
-use Rattle.dependences.proofs.Paths.{access_stops, past_load, past_store, same_store}
-use Rattle.dependences.proofs.Following.{hart_there, load_late, no_both, store_late}
-use Rattle.dependences.proofs.Outside.{read_by_load, read_by_store}
-use Rattle.memory_bytes.proofs.Bytes.{stored_within}
+use Rattle.epoch_paths.specs.InOrder.{memory_before}
+use Rattle.epoch_paths.specs.Paths.{StoresAt}
+use Rattle.epoch_paths.specs.Kept.{IsAt}
+use Rattle.epoch_paths.proofs.Paths.{access_stops, past_load, past_store, same_store}
+use Rattle.epoch_paths.proofs.Following.{hart_there, load_late, no_both, store_late}
+use Rattle.epoch_paths.proofs.Outside.{read_by_load, read_by_store}
 use Rattle.memory_bytes.proofs.SmallFacts.{seen_by, some_first, some_unless}
 use Rattle.limits.specs.declared.limit.Waits.{Waits}
 use Rattle.limits.specs.Limits.{awaited}

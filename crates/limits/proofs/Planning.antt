@@ -19,9 +19,8 @@ use Rattle.homefree.specs.declared.answer.Cause.{Cause}
 use Rattle.homefree.specs.declared.answer.Cause.TheVariants.{NoEpoch, NotHomefree, NoWay, OrbFull, OrbBusy}
 use Rattle.homefree.specs.Driven.{Driver}
 use Rattle.homefree.specs.Turned.{IsEnd}
-use Rattle.dependences.specs.Conflict.{IsInOrder}
-use Rattle.dependences.specs.Kept.{AreAll}
-use Rattle.dependences.proofs.Starting.{IsFresh}
+use Rattle.epoch_paths.specs.InOrder.{IsInOrder, AreAll}
+use Rattle.epoch_paths.proofs.Cores.{IsFresh}
 use Rattle.even_speed.specs.declared.clock.Clock.{Clock}
 use Rattle.even_speed.specs.declared.clock.Next.{Next}
 use Rattle.even_speed.specs.declared.clock.Next.TheVariants.{Due, Waits, Gone}

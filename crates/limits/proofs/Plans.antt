@@ -7,10 +7,9 @@ use Rattle.rv32_image.specs.Image.{LoadedImage}
 use Rattle.rv32_exec.specs.Hart.{HartState, start_of}
 use Rattle.rv32_exec.specs.NextEvent.{next_event}
 use Rattle.spec_history.specs.FlatState.{CoreState, FlatState}
-use Rattle.dependences.specs.Conflict.{IsInOrder, memory_before}
-use Rattle.dependences.specs.Kept.{AreAll}
-use Rattle.dependences.specs.KeptRun.{IsAt}
-use Rattle.dependences.proofs.Paths.{to_event}
+use Rattle.epoch_paths.specs.InOrder.{IsInOrder, memory_before, AreAll}
+use Rattle.epoch_paths.specs.Kept.{IsAt}
+use Rattle.epoch_paths.proofs.Paths.{to_event}
 use Rattle.even_speed.specs.declared.clock.Clock.{Clock}
 use Rattle.even_speed.specs.declared.clock.Next.{Next}
 use Rattle.even_speed.specs.declared.clock.Next.TheVariants.{Due, Waits, Gone}

@@ -35,10 +35,10 @@ use Rattle.homefree.proofs.State.Arms as arm
 use Rattle.homefree.proofs.State.Arms.{Comes, loaded_state, stored_state}
 use Rattle.homefree.proofs.State.Ends as ending
 use Rattle.homefree.proofs.State.Others.{IsOfSameKind, can_be_hurt_all}
-use Rattle.dependences.specs.Conflict.{IsInOrder, memory_before}
-use Rattle.dependences.specs.KeptRun.{IsAt}
-use Rattle.dependences.proofs.Paths.{at_start, past_load, past_store, path_stores}
-use Rattle.dependences.proofs.Starting.{IsFresh, fresh}
+use Rattle.epoch_paths.specs.InOrder.{IsInOrder, memory_before}
+use Rattle.epoch_paths.specs.Kept.{IsAt}
+use Rattle.epoch_paths.proofs.Paths.{at_start, past_load, past_store, path_stores}
+use Rattle.epoch_paths.proofs.Cores.{IsFresh, fresh}
 use Rattle.even_speed.specs.Held.{Holding, is_held}
 use Rattle.even_speed.proofs.Moving.{hurts_calm, restarts_in}
 use Rattle.limits.specs.HeldBound.{HoldsInOrder}

@@ -27,11 +27,9 @@ use Rattle.homefree.specs.Hurts.{cancels, entry, entry_for_each, epoch_on, is_ot
 use Rattle.homefree.specs.Turned.{Acts, Follows, IsEnd, IsStale, Outcome, Turn, does, left_or_over, wait_at}
 use Rattle.homefree.specs.Turned as turn
 use Rattle.homefree.proofs.SmallFacts.{wait_never}
-use Rattle.dependences.specs.Conflict.{IsInOrder, memory_before}
-use Rattle.dependences.specs.Kept.{AreAll}
-use Rattle.dependences.proofs.Ending.{all_by_last}
-use Rattle.dependences.proofs.InOrder.{all_in_order as all_epochs}
-use Rattle.dependences.proofs.Outside.{OnPath, done_before, no_exit, no_fault}
+use Rattle.epoch_paths.specs.InOrder.{IsInOrder, memory_before, AreAll}
+use Rattle.epoch_paths.proofs.InOrder.{all_by_last, all_in_order as all_epochs}
+use Rattle.epoch_paths.proofs.Outside.{OnPath, done_before, no_exit, no_fault}
 use Rattle.even_speed.specs.Held.{Holding, is_held}
 use Rattle.even_speed.proofs.Moving.{hurts_calm, restarts_in}
 use Rattle.limits.specs.HeldBound.{HoldsInOrder}

@@ -17,14 +17,13 @@ use Rattle.rv32_exec.specs.Laws.{HasStopped}
 use Rattle.rv32_exec.proofs.LawsOfRuns.{later_event}
 use Rattle.spec_history.proofs.OneEntry.Accesses.{load_counts}
 use Rattle.spec_history.proofs.OneEntry.Progress.{counted}
-use Rattle.dependences.specs.Paths.{ReadsOutside, StoresAt}
-use Rattle.dependences.specs.Conflict.{IsInOrder, memory_before}
-use Rattle.dependences.specs.Flow.{DependsAt, LastStore}
-use Rattle.dependences.specs.Kept.{AreAll}
-use Rattle.dependences.specs.KeptRun.{IsAt}
-use Rattle.dependences.proofs.Paths.{access_stops, at_start, before_event, covered, either, load_after, loads_there, neither, past_load, past_store, same_store, start_after, store_after, stores_there, to_event}
-use Rattle.dependences.proofs.Following.{all_loaded, all_stored_early, hart_there, load_late, no_both, store_late, unmarked}
-use Rattle.dependences.proofs.Outside.{OnPath, lasts, read_by_load, read_by_store, seen_now}
+use Rattle.epoch_paths.specs.Paths.{ReadsOutside, StoresAt}
+use Rattle.epoch_paths.specs.InOrder.{IsInOrder, memory_before, AreAll}
+use Rattle.epoch_paths.specs.Flow.{DependsAt, LastStore}
+use Rattle.epoch_paths.specs.Kept.{IsAt}
+use Rattle.epoch_paths.proofs.Paths.{access_stops, at_start, before_event, covered, either, load_after, loads_there, neither, past_load, past_store, same_store, start_after, store_after, stores_there, to_event}
+use Rattle.epoch_paths.proofs.Following.{all_loaded, all_stored_early, hart_there, load_late, no_both, store_late, unmarked}
+use Rattle.epoch_paths.proofs.Outside.{OnPath, lasts, read_by_load, read_by_store, seen_now}
 use Rattle.limits.specs.declared.limit.Waits.{Waits}
 use Rattle.limits.specs.declared.limit.Waits.TheVariants.{Commit, Store}
 use Rattle.limits.specs.Limits.{Timing, awaited}

@@ -6,10 +6,10 @@ use Rattle.rv32_exec.specs.Hart.{HartState, start_of}
 use Rattle.rv32_exec.specs.Sequential.{Progress, Runs, Ends, Faults, after_steps, epoch_outcome, execute, go_on}
 use Rattle.rv32_exec.specs.Laws.{HasStopped}
 use Rattle.rv32_exec.proofs.LawsOfRuns.{after_steps-+, epoch_stops, no_step, one_step}
-use Rattle.dependences.specs.Paths.{StoresAt}
-use Rattle.dependences.specs.Conflict.{memory_before}
-use Rattle.dependences.specs.Lengths.{Lasts}
-use Rattle.dependences.proofs.Following.{stays}
+use Rattle.epoch_paths.specs.Paths.{StoresAt}
+use Rattle.epoch_paths.specs.InOrder.{memory_before}
+use Rattle.epoch_paths.specs.Lengths.{Lasts}
+use Rattle.epoch_paths.proofs.Following.{stays}
 
 -- what still runs has not come past a stop
 pub before_stop : (image : LoadedImage) (n m : ℕ) (from h g : HartState) (memory memory' after : List ℕ) → after_steps image n from memory ≡ Runs h memory'

@@ -7,12 +7,12 @@ use Rattle.rv32_image.specs.Image.{IsImage, LoadedImage}
 use Rattle.rv32_exec.specs.Hart.{HartState}
 use Rattle.rv32_exec.specs.NextEvent.{next_event}
 use Rattle.spec_history.proofs.Searches.Tests.{one_passes}
-use Rattle.dependences.specs.declared.pieces.Pieces.TheVariants.{Bytes}
-use Rattle.dependences.specs.Conflict.{IsInOrder, memory_before}
-use Rattle.dependences.specs.Paths.{Stores}
-use Rattle.dependences.specs.Stored.{StoresInOrder, piece_in}
-use Rattle.dependences.proofs.Alike.{alike}
-use Rattle.dependences.proofs.InOrder.{before_in_order, ends_with, memory_none}
+use Rattle.epoch_paths.specs.declared.pieces.Pieces.TheVariants.{Bytes}
+use Rattle.epoch_paths.specs.InOrder.{IsInOrder, memory_before}
+use Rattle.epoch_paths.specs.Paths.{Stores}
+use Rattle.epoch_paths.specs.Stored.{StoresInOrder, piece_in}
+use Rattle.epoch_paths.proofs.Alike.{alike}
+use Rattle.epoch_paths.proofs.InOrder.{before_in_order, ends_with, memory_none}
 use Rattle.even_speed.specs.Held.{Holding, is_held, is_stored, reads_stored, waits_by}
 use Rattle.limits.specs.HeldBound.{HoldsInOrder}
 

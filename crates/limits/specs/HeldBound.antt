@@ -7,8 +7,8 @@ use Rattle.violations.specs.View.{StoreView, Waits as StoreWaits}
 use Rattle.violations.specs.Calls.{Call}
 use Rattle.homefree.specs.Driven.{Driver}
 use Rattle.homefree.specs.InStep.{InStep}
-use Rattle.dependences.specs.declared.pieces.Pieces.TheVariants.{Bytes}
-use Rattle.dependences.specs.Stored.{AreStores, piece_in}
+use Rattle.epoch_paths.specs.declared.pieces.Pieces.TheVariants.{Bytes}
+use Rattle.epoch_paths.specs.Stored.{AreStores, piece_in}
 use Rattle.even_speed.specs.declared.run.Ran.{Ran}
 use Rattle.even_speed.specs.Even.{Evenly, Pacing, at_first}
 use Rattle.even_speed.specs.Held.{Holding, holding}

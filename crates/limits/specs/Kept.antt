@@ -1,11 +1,11 @@
 -- What the code keeps of the run in order: when the epochs so far have stored and committed, each step as early as it can be.
 use Rattle.std.specs.Prelude.{◌≡◌, ◌⊎◌, ℕ, zero, suc, ◌+◌, ◌-◌, ◌*◌, ◌<◌, ◌≤◌, List, [], ◌∷◌, ◌++◌, length, max, slice_index}
 use Rattle.rv32_image.specs.Image.{LoadedImage}
-use Rattle.dependences.specs.Paths.{StoresAt}
-use Rattle.dependences.specs.Conflict.{memory_before}
-use Rattle.dependences.specs.Flow.{DependsAt, LastStore}
-use Rattle.dependences.specs.Kept.{AreAll, IsMarked}
-use Rattle.dependences.specs.Lengths.{Lasts}
+use Rattle.epoch_paths.specs.Paths.{StoresAt}
+use Rattle.epoch_paths.specs.InOrder.{memory_before, AreAll}
+use Rattle.epoch_paths.specs.Flow.{DependsAt, LastStore}
+use Rattle.epoch_paths.specs.Kept.{IsMarked}
+use Rattle.epoch_paths.specs.Lengths.{Lasts}
 use Rattle.limits.specs.declared.limit.Waits.{Waits}
 use Rattle.limits.specs.declared.limit.Waits.TheVariants.{Commit, Store}
 use Rattle.limits.specs.Limits.{Timing, awaited}

@@ -4,9 +4,9 @@
 -- speculative threads, of Oplinger, Heine and Lam, "In Search of Speculative Thread-Level Parallelism", PACT 1999.
 use Rattle.std.specs.Prelude.{◌≡◌, ℕ, zero, suc, ◌+◌, ◌<◌, ◌≤◌}
 use Rattle.rv32_image.specs.Image.{LoadedImage}
-use Rattle.dependences.specs.Flow.{DependsAt}
-use Rattle.dependences.specs.Kept.{AreAll}
-use Rattle.dependences.specs.Lengths.{Lasts}
+use Rattle.epoch_paths.specs.Flow.{DependsAt}
+use Rattle.epoch_paths.specs.InOrder.{AreAll}
+use Rattle.epoch_paths.specs.Lengths.{Lasts}
 use Rattle.limits.specs.declared.limit.Waits.{Waits}
 use Rattle.limits.specs.declared.limit.Waits.TheVariants.{Commit, Store}
 

@@ -2,7 +2,7 @@ ghost use Rattle.std.specs.Prelude.{◌≡◌, ℕ, ◌+◌, ◌<◌, ◌≤◌,
 ghost use Rattle.rv32_image.specs.Image.{IsImage};
 ghost use Rattle.rv32_exec.specs.declared.sequential.End.TheVariants.{Done};
 ghost use Rattle.rv32_exec.specs.Sequential.{first_epochs};
-ghost use Rattle.dependences.specs.Conflict.{IsInOrder};
+ghost use Rattle.epoch_paths.specs.InOrder.{IsInOrder};
 ghost use Rattle.limits.specs.Kept as spec;
 ghost use Rattle.limits.specs.Limits.{IsLimit};
 

@@ -1,6 +1,6 @@
 //! When epochs store and commit, where each step comes as early as it can.
 ghost use Rattle.std.specs.Prelude.{◌≡◌, ℕ, ◌+◌, ◌-◌, ◌<◌, ◌≤◌, ◌^◌, IfOk, OnOk, [], length, slice_index};
-ghost use Rattle.dependences.specs.Kept.{IsMarked};
+ghost use Rattle.epoch_paths.specs.Kept.{IsMarked};
 ghost use Rattle.limits.specs.Kept as spec;
 
 use crate::limit::Waits;

@@ -26,11 +26,11 @@ use Rattle.spec_history.proofs.OneEntry.Entries.{still_runs}
 use Rattle.spec_history.proofs.OneEntry.Keeping.{at_core, noted, noted_within}
 use Rattle.spec_history.proofs.OneEntry.Legal.{IsLegalEntry, legal_entry, that_load, that_store}
 use Rattle.spec_history.proofs.Replay.Replays.{effect-idle, effect-on, on_core, replayed}
-use Rattle.dependences.specs.Paths.{ReadsOutside}
+use Rattle.epoch_paths.specs.Paths.{ReadsOutside}
 use Rattle.dependences.proofs.Histories.{along}
-use Rattle.dependences.proofs.Outside.{read_by_load, read_by_store}
-use Rattle.dependences.specs.KeptRun.{IsAt}
-use Rattle.dependences.proofs.Paths.{at_start, past_load, past_store}
+use Rattle.epoch_paths.proofs.Outside.{read_by_load, read_by_store}
+use Rattle.epoch_paths.specs.Kept.{IsAt}
+use Rattle.epoch_paths.proofs.Paths.{at_start, past_load, past_store}
 
 -- the core over this memory
 pub record IsComplete (image : LoadedImage) (memory : List ℕ) (c : CoreState) : Type 0 where

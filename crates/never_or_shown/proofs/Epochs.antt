@@ -35,8 +35,8 @@ use Rattle.bus_states.proofs.Addresses.{offset-aligned, offset-in_line}
 use Rattle.dependences.specs.Conflict.{LineConflict, StoresIn, path_memory}
 use Rattle.dependences.specs.Shared.{RunBeside, SharedOverflow, TouchesIn}
 use Rattle.dependences.proofs.Meetings.{two_beside}
-use Rattle.dependences.specs.KeptRun.{IsAt}
-use Rattle.dependences.proofs.Paths.{loads_there, reads_there, stores_there}
+use Rattle.epoch_paths.specs.Kept.{IsAt}
+use Rattle.epoch_paths.proofs.Paths.{loads_there, reads_there, stores_there}
 use Rattle.dependences.proofs.Starting.{IsOrderly}
 use Rattle.dependences.proofs.Windows.{IsInWindow}
 use Rattle.never_or_shown.proofs.Messages.{MayHear}

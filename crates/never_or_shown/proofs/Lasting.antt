@@ -3,11 +3,12 @@ use Rattle.std.proofs.Common.{◌≡◌, ℕ, ◌+◌, ◌<◌, ◌≤◌, true,
 use Rattle.std.proofs.lemmas.Bool.{cases_lt}
 use Rattle.std.proofs.lemmas.Bool.Decides.{nat_tests}
 use Rattle.rv32_image.specs.Image.{LoadedImage}
-use Rattle.dependences.specs.Paths.{ReadsOutside, Stores}
-use Rattle.dependences.specs.Conflict.{ConflictInOrder, IsInOrder, first_beside}
-use Rattle.dependences.specs.Kept.{AreAll, is_near}
+use Rattle.epoch_paths.specs.Paths.{ReadsOutside, Stores}
+use Rattle.epoch_paths.specs.InOrder.{IsInOrder, AreAll}
+use Rattle.dependences.specs.Conflict.{ConflictInOrder, first_beside}
+use Rattle.dependences.specs.Kept.{is_near}
 use Rattle.dependences.specs.Nearest.{Depends, IsLaterAt, IsNearest}
-use Rattle.dependences.proofs.InOrder.{all_in_order}
+use Rattle.epoch_paths.proofs.InOrder.{all_in_order}
 use Rattle.dependences.proofs.Showing.{run_in_order}
 use Rattle.never_or_shown.specs.Shown.{IsConflictAt}
 

@@ -11,7 +11,7 @@ use Rattle.homefree.proofs.Violations.Sharing.{but, not_this, unless_this}
 use Rattle.dependences.specs.Conflict.{AreBeside, LineConflict, PathReads, StoresIn, path_memory}
 use Rattle.dependences.specs.Shared.{IsShared, RunBeside, SharedOverflow, TouchesIn}
 use Rattle.dependences.proofs.Meetings.{passing}
-use Rattle.dependences.proofs.Windows.{count_more}
+use Rattle.epoch_paths.proofs.Cores.{count_more}
 use Rattle.never_or_shown.proofs.Messages.{FitsBuffer}
 
 -- the epoch's path reads a byte of this line from outside

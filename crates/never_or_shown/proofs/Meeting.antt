@@ -5,11 +5,13 @@ use Rattle.rv32_image.specs.Image.{LoadedImage, IsImage}
 use Rattle.rv32_exec.specs.declared.sequential.End.{End}
 use Rattle.rv32_exec.specs.declared.sequential.End.TheVariants.{Done, Exit, Fault}
 use Rattle.rv32_exec.specs.Sequential.{first_epochs}
-use Rattle.dependences.specs.Paths.{ReadsOutside, Stores}
-use Rattle.dependences.specs.Conflict.{ConflictInOrder, IsInOrder, first_beside, memory_before, memory_by}
+use Rattle.epoch_paths.specs.Paths.{ReadsOutside, Stores}
+use Rattle.epoch_paths.specs.InOrder.{IsInOrder, memory_before}
+use Rattle.dependences.specs.Conflict.{ConflictInOrder, first_beside, memory_by}
 use Rattle.dependences.specs.Laws.{IsAlike}
-use Rattle.dependences.proofs.Alike.{alike}
-use Rattle.dependences.proofs.InOrder.{all_in_order, alike_all, low_most}
+use Rattle.epoch_paths.proofs.Alike.{alike}
+use Rattle.epoch_paths.proofs.InOrder.{all_in_order}
+use Rattle.dependences.proofs.InOrder.{alike_all, low_most}
 use Rattle.dependences.proofs.Showing.{number_done, reads_so, run_in_order, turned, IsWrittenInOrder, all_up}
 use Rattle.never_or_shown.specs.Shown.{IsConflictAt}
 use Rattle.never_or_shown.specs.Windows.{NoneMeet}

@@ -13,7 +13,7 @@ use Rattle.spec_history.proofs.OneEntry.Keeping.{at_core, with_core_other, with_
 use Rattle.spec_states.specs.Mask.{has, is_within}
 use Rattle.bus_states.specs.Bus.{Bus}
 use Rattle.bus_states.specs.Speculative.{own}
-use Rattle.dependences.proofs.Paths.{covered, either}
+use Rattle.epoch_paths.proofs.Paths.{covered, either}
 use Rattle.never_or_shown.proofs.Accesses.{Goes}
 use Rattle.never_or_shown.proofs.Speculating.{goes-tidy}
 use Rattle.never_or_shown.proofs.Straights.{Sets, sets-tidy}

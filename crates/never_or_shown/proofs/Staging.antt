@@ -20,7 +20,8 @@ use Rattle.homefree.specs.BookView.{BookView, ReplaysTo}
 use Rattle.homefree.specs.Counted.{IsNoMore}
 use Rattle.homefree.specs.Held.{held_at}
 use Rattle.homefree.proofs.Books.Drives.{none_held}
-use Rattle.dependences.specs.Conflict.{IsInOrder, first_beside}
+use Rattle.epoch_paths.specs.InOrder.{IsInOrder}
+use Rattle.dependences.specs.Conflict.{first_beside}
 use Rattle.never_or_shown.specs.declared.drive.Drive.{Drive}
 use Rattle.never_or_shown.specs.Drives.{HasRun, IsAfter, IsDrive, IsTurn}
 use Rattle.never_or_shown.specs.Quiet.{HasReadAll, IsQuiet, PassesOver, RunsEpoch, Starts}

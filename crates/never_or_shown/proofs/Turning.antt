@@ -34,14 +34,14 @@ use Rattle.homefree.specs.Hurts.{entry, entry_for_each, epoch_on}
 use Rattle.homefree.specs.Turned as turn
 use Rattle.homefree.specs.Turned.{IsEnd, IsHandedIn, Outcome, Turn, cause_of, does, entry_of, hurts_of, left_or_over, publishes_unless, wait_at}
 use Rattle.homefree.proofs.SmallFacts.{stale_not, wait_never}
-use Rattle.dependences.specs.Conflict.{IsInOrder, memory_before}
+use Rattle.epoch_paths.specs.InOrder.{IsInOrder, memory_before}
 use Rattle.dependences.specs.Laws.{NoneIsHurt}
-use Rattle.dependences.specs.Paths.{ReadsOutside, Stores}
-use Rattle.dependences.proofs.Following.{all_loaded, all_stored}
-use Rattle.dependences.proofs.InOrder.{all_in_order}
-use Rattle.dependences.proofs.Outside.{OnPath, done_before, no_exit, no_fault}
-use Rattle.dependences.specs.KeptRun.{IsAt}
-use Rattle.dependences.proofs.Starting.{IsFresh, fresh}
+use Rattle.epoch_paths.specs.Paths.{ReadsOutside, Stores}
+use Rattle.epoch_paths.proofs.Following.{all_loaded, all_stored}
+use Rattle.epoch_paths.proofs.InOrder.{all_in_order}
+use Rattle.epoch_paths.proofs.Outside.{OnPath, done_before, no_exit, no_fault}
+use Rattle.epoch_paths.specs.Kept.{IsAt}
+use Rattle.epoch_paths.proofs.Cores.{IsFresh, fresh}
 use Rattle.never_or_shown.specs.Quiet.{AreOthers, ComesTo, GoesOn, HasCommitted, HasReadAll, IsAtEnd, IsQuiet, PassesOver, RunsEpoch, Starts}
 use Rattle.never_or_shown.proofs.Complete.{IsComplete, all_know}
 

@@ -1,7 +1,7 @@
 -- What the run in order shows of how near epochs depend on each other.
 -- Source: this project.
 use Rattle.rv32_image.specs.Image.{LoadedImage}
-use Rattle.dependences.specs.Kept.{AreAll}
+use Rattle.epoch_paths.specs.InOrder.{AreAll}
 use Rattle.dependences.specs.Nearest.{IsLaterAt, IsNearest}
 use Rattle.never_or_shown.specs.declared.shown.InOrder.{InOrder}
 

@@ -5,8 +5,8 @@ use Rattle.rv32_image.specs.Image.{LoadedImage}
 use Rattle.spec_history.specs.FlatState.{FlatState}
 use Rattle.violations.specs.Plain.{PlainView}
 use Rattle.homefree.specs.BookView.{BookView, ReplaysTo}
-use Rattle.dependences.specs.Paths.{ReadsOutside, Stores}
-use Rattle.dependences.specs.Conflict.{IsInOrder, memory_before}
+use Rattle.epoch_paths.specs.Paths.{ReadsOutside, Stores}
+use Rattle.epoch_paths.specs.InOrder.{IsInOrder, memory_before}
 use Rattle.never_or_shown.specs.declared.drive.Drive.{Drive}
 use Rattle.never_or_shown.specs.Drives.{IsDrive}
 use Rattle.never_or_shown.specs.Quiet.{HasReadAll, IsQuiet, RunsEpoch}

@@ -24,7 +24,7 @@ use Rattle.turn_costs.specs.declared.costs.Costs.{Costs}
 use Rattle.turn_costs.specs.Prices.{Prices}
 use Rattle.even_speed.specs.Even.{pacing}
 use Rattle.even_speed.specs.Held.{Holding, loads_at}
-use Rattle.dependences.specs.declared.pieces.Pieces.{Pieces}
+use Rattle.epoch_paths.specs.declared.pieces.Pieces.{Pieces}
 use Rattle.all_schedules.specs.Evenly.{IsEvenFault, MakesEvenly}
 use Rattle.all_schedules.specs.Holding.{WaitsInOrder, none_waits}
 use Rattle.replay_command.specs.Paced.{IsEvenStop, IsEvenText, IsPacedOf, IsPacedOutcome, IsPacedStop, IsPacedText}

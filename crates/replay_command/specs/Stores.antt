@@ -7,8 +7,8 @@ use Rattle.trace_commands.specs.declared.outcome.Outcome.TheVariants.{Usage, Sto
 use Rattle.trace_commands.specs.declared.outcome.CommandStop.TheVariants.{NoMemory}
 use Rattle.trace_commands.specs.declared.store.Store.{Store}
 use Rattle.trace_commands.specs.declared.store.Store.TheVariants.{Caches, Plain}
-use Rattle.dependences.specs.declared.pieces.Pieces.{Pieces}
-use Rattle.dependences.specs.declared.pieces.Pieces.TheVariants.{Bytes, Lines}
+use Rattle.epoch_paths.specs.declared.pieces.Pieces.{Pieces}
+use Rattle.epoch_paths.specs.declared.pieces.Pieces.TheVariants.{Bytes, Lines}
 use Rattle.trace_commands.specs.Stores.{asked_by, on_machine, store_named}
 use Rattle.run_command.specs.Runnable.{IsRunnable}
 

@@ -17,7 +17,7 @@ use crate::print::print_book;
 use crate::settings::Settings;
 use crate::text::push_turns;
 use all_schedules::{LoopOn, holds_at, holds_in_order, run_evenly, run_seeded};
-use dependences::Pieces;
+use epoch_paths::Pieces;
 use even_speed::Terms;
 use homefree::{Book, TurnFault};
 use run_command::runnable;

@@ -6,7 +6,7 @@ ghost use Rattle.run_command.specs.Runnable.{IsRunnable};
 ghost use Rattle.replay_command.specs.Stores as spec;
 
 use crate::core_count::CoreCount;
-use dependences::Pieces;
+use epoch_paths::Pieces;
 use run_command::runnable;
 use rv32_image::Image;
 use std::alloc::AllocError;

@@ -1,5 +1,5 @@
 use Rattle.std.proofs.Common.{◌+◌, arith}
-use Rattle.dependences.proofs.InOrder.{all_in_order}
+use Rattle.epoch_paths.proofs.InOrder.{all_in_order}
 use Rattle.dependences.proofs.alone.run_between.Goals as goal
 
 pub run_one-requires-clause-order : goal.run_one-requires-clause-order

@@ -6,7 +6,7 @@ use Rattle.rv32_exec.specs.NextEvent.{next_event}
 use Rattle.rv32_exec.specs.Arrival.{after_number}
 use Rattle.rv32_exec.proofs.Accesses.{stop_of_event}
 use Rattle.spec_history.proofs.OneEntry.Accesses.{load_counts}
-use Rattle.dependences.proofs.Outside.{goes_on, no_fault, path_load, path_start, path_store}
+use Rattle.epoch_paths.proofs.Outside.{goes_on, no_fault, path_load, path_start, path_store}
 use Rattle.dependences.proofs.alone.run_one.Goals as goal
 
 pub accesses-init : goal.accesses-init

@@ -1,5 +1,5 @@
 use Rattle.std.proofs.Common.{◌-◌, ◌+◌, ◌≤◌}
-use Rattle.dependences.proofs.Outside.{OnPath}
+use Rattle.epoch_paths.proofs.Outside.{OnPath}
 use Rattle.dependences.proofs.alone.run_one.Given as goal
 
 -- it runs over memory

@@ -2,13 +2,14 @@ use Rattle.std.proofs.Common.{◌≡◌, ◌+◌, ℕ, List, length, sym, ap, su
 use Rattle.rv32_exec.specs.declared.sequential.End.TheVariants.{Done}
 use Rattle.rv32_exec.specs.Sequential.{SequentialResult}
 use Rattle.rv32_exec.proofs.Epochs.{first_epochs-none}
-use Rattle.dependences.specs.Conflict.{IsInOrder, first_beside}
-use Rattle.dependences.specs.Kept.{IsNext}
+use Rattle.epoch_paths.specs.InOrder.{IsInOrder}
+use Rattle.dependences.specs.Conflict.{first_beside}
+use Rattle.epoch_paths.specs.Kept.{IsNext}
 use Rattle.dependences.specs.KeptTouches.{AreClear}
 use Rattle.dependences.specs.KeptWatch.{IsWatchKept}
 use Rattle.dependences.proofs.Caching.{clear_first, clear_more, none_of}
-use Rattle.dependences.proofs.Ending.{all_by_end, all_by_last}
-use Rattle.dependences.proofs.InOrder.{all_in_order, low_most}
+use Rattle.epoch_paths.proofs.InOrder.{all_by_end, all_by_last, all_in_order}
+use Rattle.dependences.proofs.InOrder.{low_most}
 use Rattle.dependences.proofs.caches.conflict_in_order.Goals as goal
 
 pub loop-epoch-init : goal.loop-epoch-init

@@ -1,6 +1,6 @@
 use Rattle.std.proofs.Common.{◌≡◌, sym, ap, subst, ◌∙◌, arith}
 use Rattle.rv32_exec.specs.Sequential.{SequentialResult}
-use Rattle.dependences.specs.Kept.{AreAll}
+use Rattle.epoch_paths.specs.InOrder.{AreAll}
 use Rattle.dependences.specs.KeptRun.{IsLeft}
 use Rattle.dependences.proofs.Ending.{all_left, left_next}
 use Rattle.dependences.proofs.Running.{all_run, run_more}

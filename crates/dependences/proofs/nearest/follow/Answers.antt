@@ -10,9 +10,10 @@ use Rattle.rv32_exec.specs.Sequential.{exits}
 use Rattle.rv32_exec.proofs.Accesses.{stop_of_event}
 use Rattle.spec_history.proofs.OneEntry.Accesses.{load_counts}
 use Rattle.dependences.specs.KeptRun.{Following}
-use Rattle.dependences.proofs.Following.{following_load, following_start, following_store, kept_after, runs_in_order, writers_below}
-use Rattle.dependences.proofs.Outside.{OnPath, done_before, ends_so, no_exit, no_fault}
-use Rattle.dependences.specs.Conflict.{memory_before}
+use Rattle.epoch_paths.proofs.InOrder.{runs_in_order}
+use Rattle.dependences.proofs.Following.{following_load, following_start, following_store, kept_after, writers_below}
+use Rattle.epoch_paths.proofs.Outside.{OnPath, done_before, ends_so, no_exit, no_fault}
+use Rattle.epoch_paths.specs.InOrder.{memory_before}
 use Rattle.dependences.proofs.nearest.follow.Goals as goal
 
 path : (image : LoadedImage) (epoch : ℕ) (memory writers : List ℕ) (h : HartState) (nearest : Option ℕ) → Following image epoch memory writers h nearest

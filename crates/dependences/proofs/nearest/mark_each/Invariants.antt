@@ -1,4 +1,4 @@
-use Rattle.dependences.specs.Kept.{IsMarked}
+use Rattle.epoch_paths.specs.Kept.{IsMarked}
 use Rattle.dependences.proofs.nearest.mark_each.Given as goal
 
 -- the bytes so far are marked

@@ -3,9 +3,9 @@ use Rattle.std.proofs.lemmas.Bool.{not-true}
 use Rattle.rv32_exec.specs.declared.sequential.End.TheVariants.{Done}
 use Rattle.rv32_exec.specs.Sequential.{SequentialResult}
 use Rattle.rv32_exec.proofs.Epochs.{first_epochs-none}
-use Rattle.dependences.specs.Conflict.{IsInOrder}
+use Rattle.epoch_paths.specs.InOrder.{IsInOrder}
 use Rattle.dependences.specs.Kept.{AreKept, IsLastWriter}
-use Rattle.dependences.proofs.Ending.{all_by_end, all_by_last}
+use Rattle.epoch_paths.proofs.InOrder.{all_by_end, all_by_last}
 use Rattle.dependences.proofs.nearest.run_all.Goals as goal
 
 pub loop-epoch-init : goal.loop-epoch-init

@@ -1,7 +1,9 @@
 use Rattle.std.proofs.Common.{◌≡◌, ℕ, ◌∷◌, [], sym, ap, ◌∙◌}
 use Rattle.rv32_exec.specs.Sequential.{SequentialResult}
-use Rattle.dependences.specs.Conflict.{IsInOrder, first_beside}
-use Rattle.dependences.proofs.InOrder.{all_in_order, low_most}
+use Rattle.epoch_paths.specs.InOrder.{IsInOrder}
+use Rattle.dependences.specs.Conflict.{first_beside}
+use Rattle.epoch_paths.proofs.InOrder.{all_in_order}
+use Rattle.dependences.proofs.InOrder.{low_most}
 use Rattle.dependences.proofs.Running.{ended_at, run_more, started_at}
 use Rattle.dependences.proofs.Showing.{run_in_order}
 use Rattle.dependences.proofs.Watching.{watch_begun, watch_done}

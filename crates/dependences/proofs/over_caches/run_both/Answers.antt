@@ -1,12 +1,13 @@
 use Rattle.std.proofs.Common.{◌≡◌, ◌+◌, false, length, sym, ap, subst, ◌∙◌, arith}
 use Rattle.rv32_exec.specs.Sequential.{SequentialResult}
-use Rattle.dependences.specs.Conflict.{IsInOrder}
-use Rattle.dependences.specs.Kept.{IsNext}
+use Rattle.epoch_paths.specs.InOrder.{IsInOrder}
+use Rattle.epoch_paths.specs.Kept.{IsNext}
 use Rattle.dependences.specs.KeptRun.{IsRunKept}
 use Rattle.dependences.specs.KeptTouches.{AreClear}
 use Rattle.dependences.specs.KeptWatch.{IsWatchKept}
 use Rattle.dependences.proofs.Caching.{clear_first, clear_more, none_of}
-use Rattle.dependences.proofs.Ending.{all_by_end, left_first, left_next}
+use Rattle.epoch_paths.proofs.InOrder.{all_by_end}
+use Rattle.dependences.proofs.Ending.{left_first, left_next}
 use Rattle.dependences.proofs.over_caches.run_both.Goals as goal
 
 pub loop-epoch-init : goal.loop-epoch-init

@@ -1,5 +1,5 @@
 use Rattle.std.proofs.Common.{◌≡◌, length, sym, subst, arith}
-use Rattle.dependences.specs.Kept.{AreAll}
+use Rattle.epoch_paths.specs.InOrder.{AreAll}
 use Rattle.depends.proofs.lines.print_lines.Goals as goal
 
 pub push_stores-requires-clause-seen : goal.push_stores-requires-clause-seen

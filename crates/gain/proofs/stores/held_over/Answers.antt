@@ -1,6 +1,6 @@
 use Rattle.std.proofs.Common.{refl, rules, subst}
 use Rattle.even_speed.specs.Holds.{holding_of}
-use Rattle.dependences.specs.declared.pieces.Pieces.{Pieces}
+use Rattle.epoch_paths.specs.declared.pieces.Pieces.{Pieces}
 use Rattle.all_schedules.specs.Holding.{WaitsInOrder}
 use Rattle.gain.proofs.stores.held_over.Goals as goal
 

@@ -8,9 +8,9 @@ use Rattle.rv32_exec.specs.Arrival.{after_number}
 use Rattle.rv32_exec.specs.Sequential.{exits}
 use Rattle.rv32_exec.proofs.Accesses.{stop_of_event}
 use Rattle.spec_history.proofs.OneEntry.Accesses.{load_counts}
-use Rattle.dependences.specs.Conflict.{memory_before}
-use Rattle.dependences.proofs.Following.{runs_in_order}
-use Rattle.dependences.proofs.Outside.{done_before, ends_so, no_exit, no_fault}
+use Rattle.epoch_paths.specs.InOrder.{memory_before}
+use Rattle.epoch_paths.proofs.InOrder.{runs_in_order}
+use Rattle.epoch_paths.proofs.Outside.{done_before, ends_so, no_exit, no_fault}
 use Rattle.limits.proofs.Running.{most_done, running_end, running_load, running_path, running_start, running_store}
 use Rattle.limits.proofs.limit.follow.Goals as goal
 

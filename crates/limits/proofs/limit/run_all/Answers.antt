@@ -2,8 +2,8 @@ use Rattle.std.proofs.Common.{◌≡◌, ◌+◌, List, ℕ, sym, ap, subst, ◌
 use Rattle.rv32_exec.specs.declared.sequential.End.TheVariants.{Done}
 use Rattle.rv32_exec.specs.Sequential.{SequentialResult}
 use Rattle.rv32_exec.proofs.Epochs.{first_epochs-none}
-use Rattle.dependences.specs.Conflict.{IsInOrder}
-use Rattle.dependences.proofs.Ending.{all_by_end, all_by_last}
+use Rattle.epoch_paths.specs.InOrder.{IsInOrder}
+use Rattle.epoch_paths.proofs.InOrder.{all_by_end, all_by_last}
 use Rattle.limits.proofs.Running.{have_run, kept_none}
 use Rattle.limits.proofs.limit.run_all.Goals as goal
 

@@ -1,4 +1,4 @@
-use Rattle.dependences.specs.Kept.{IsMarked}
+use Rattle.epoch_paths.specs.Kept.{IsMarked}
 use Rattle.limits.proofs.times.mark.Given as goal
 
 -- the bytes so far are marked
