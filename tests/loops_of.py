@@ -322,6 +322,27 @@ def answer_of(source: Path, line: str, folder: Path, kit: Kit | None = None, sec
         return str(why)
 
 
+def kits(folder: Path) -> Iterator[Check]:
+    """What is built once is in its place whole, and isn't written to again by a process that comes later."""
+    from loops.loops_of.build import Kit, put_in_place
+    first, second, place = (Kit(folder / name) for name in ("first", "second", "place"))
+    for kit in (first, second):
+        kit.folder.mkdir()
+        for path in (kit.plugin, *kit.archives):
+            path.write_text(kit.folder.name, encoding="ascii")
+    put_in_place(first, place)
+    read_already = place.archives[0].open(encoding="ascii")
+    put_in_place(second, place)
+    told = {path.read_text(encoding="ascii") for path in (place.plugin, *place.archives)} | {read_already.read()}
+    read_already.close()
+    yield "a kit that is there stays as it is", None if told == {"first"} else f"got {told}"
+    try:
+        put_in_place(second, Kit(folder / "nowhere" / "place"))
+        yield "a kit without a place", "no error"
+    except OSError:
+        yield "a kit without a place", None
+
+
 def wrong_plugins(folder: Path) -> Iterator[Check]:
     """The plug-in with mistakes, of which the environment of one that is built for that chooses one. Those that LLVM's
     verifier or the pass itself sees make no image; an array that doesn't go along changes no memory, but is told, and
@@ -434,7 +455,7 @@ def main() -> int:
         return 0
     with tempfile.TemporaryDirectory() as folder, tempfile.TemporaryDirectory() as room:
         furnished(Path(room), script.command())
-        own, alone = (natives, same, random_programs, refusals, requests), (chunks, names, frames)
+        own, alone = (kits, natives, same, random_programs, refusals, requests), (chunks, names, frames)
         script.run(listings, *[partial(part, Path(folder)) for part in own], *alone,
                    *[partial(part, Path(folder)) for part in (gains, wrong_plugins, wrong_passes, wrong_images)])
     return script.ended()

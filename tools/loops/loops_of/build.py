@@ -5,7 +5,6 @@ import bisect
 import hashlib
 import os
 import re
-import shutil
 import subprocess
 import sys
 import tempfile
@@ -142,12 +141,22 @@ def kit_of() -> Kit:
         print("loops-of: builds its plug-in for LLVM, once, in half a minute", file=sys.stderr)
         folder.mkdir(parents=True, exist_ok=True)
         with tempfile.TemporaryDirectory(dir=folder) as scratch:
-            scratch_kit = Kit(Path(scratch))
+            scratch_kit = Kit(Path(scratch, "kit"))
+            scratch_kit.folder.mkdir()
             build_plugin(scratch_kit)
             build_runtime(scratch_kit)
-            # whole or not at all, where two build it at once
-            shutil.copytree(scratch, made.folder, dirs_exist_ok=True)
+            put_in_place(scratch_kit, made)
     return made
+
+
+def put_in_place(new: Kit, made: Kit) -> None:
+    """Has a kit in its place whole or not at all. Where another process was there first, its kit stays as it is, since
+    it may be read already."""
+    try:
+        new.folder.rename(made.folder)
+    except OSError:
+        if not made.plugin.is_file():
+            raise
 
 
 # --- What is told of loops -----------------------------------------------------
