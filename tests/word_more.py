@@ -87,7 +87,7 @@ LINES = {
         Line(MADE, "specs/Turns.antt", "hart_line", "src/cores.rt", "hart_line", "core", "core"),
         Line(MADE, "specs/Places.antt", "way_line", "src/ways.rt", "way_line", "core", "core"),
         Line(MADE, "specs/Places.antt", "orb_line", "src/orbs.rt", "orb_line", "core", "core"),
-        Line(MADE, "specs/Rows.antt", "at_text", "src/committed_row.rt", "at_line", "row", "row"),
+        Line(MADE, "specs/Rows.antt", "at_text", "src/committed_row.rt", "at_line", "(16 * row)", "row.address(0)"),
         Line(MADE, "specs/Rows.antt", "kept_text", "src/kept_row.rt", "kept_line", "core", "core"),
     ],
     "gain": [Line(NUMBERED, "specs/Text.antt", "line_text", "src/text.rt", "push_line", "cores", "cores as u64")],
